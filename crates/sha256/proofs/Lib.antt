@@ -1,0 +1,6 @@
+mod Blocks
+mod Digits
+mod Padding
+mod Pieces
+mod Steps
+pub mod Laws
