@@ -1,0 +1,16 @@
+pub mod Orders
+pub mod SortedRows
+pub mod Elements
+pub mod SameRows
+pub mod Search
+pub mod Slots
+pub mod Numbers
+pub mod Outcomes
+pub mod Memory
+pub mod Maps
+pub mod Entering
+pub mod Entry
+pub mod Shuffles
+pub mod Runs
+pub mod Kept
+pub mod Held
