@@ -1,0 +1,5 @@
+use Rattle.sum.proofs.any_order_stands.Needs as need
+use Rattle.sum.proofs.Sums.{any-order}
+
+pub returns : need.returns
+returns c = any-order
