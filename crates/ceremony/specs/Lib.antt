@@ -1,0 +1,4 @@
+pub mod Model
+pub mod Steps
+pub mod Draws
+pub mod Reports
