@@ -1,0 +1,10 @@
+// A whole draw from a file of steps: what is printed of it.
+//
+// `draw` is all that the program of that name does between reading its file and printing: the memory of the draw, every
+// step of the file, and the lines for the refusals, the summary and the parties left out.
+mod report;
+mod run;
+
+pub use report::Ending;
+pub use report::Report;
+pub use report::draw;
