@@ -8,6 +8,8 @@ use Rattle.std.specs.declared.option.Option.the-variants.{Some, None}
 use Rattle.order.specs.declared.Outcome.{Outcome}
 use Rattle.order.specs.declared.Outcome.the-variants.{Drawn, RunOut}
 use Rattle.seals.specs.Records.{has-opened}
+use Rattle.protocol.specs.Protocol.{Protocol}
+use Rattle.protocol.specs.Finished.{protocol-of}
 use Rattle.texts.specs.Lines.{summary-lines, left-out-line}
 use Rattle.ceremony.specs.Model.{Ended}
 use Rattle.ceremony.specs.Steps.{opened-count}
@@ -31,3 +33,8 @@ left-out-lines seals len (suc n) = left-out-lines seals len n ++ cond (has-opene
 
 abbrev pub left-out-of : Ended → List ℕ
 left-out-of e = left-out-lines (e .held .seals) (e .list .length) (e .parties)
+
+-- the protocol of the draw
+abbrev pub protocol-left : Ended → Protocol
+protocol-left e =
+    protocol-of (e .held .slots) (e .held .index) (e .list .count) (e .list .length) (e .held .seals) (e .parties) (e .held .order) (e .outcome)

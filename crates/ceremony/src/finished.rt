@@ -3,14 +3,17 @@ ghost use mathlib.Core.List.{List, _++_};
 ghost use mathlib.Core.Path.{_≡_};
 ghost use lib.ListN.{length, take};
 ghost use Rattle.ceremony.specs.Model.{as-ended};
-ghost use Rattle.ceremony.specs.Reports.{summary-of, left-out-of, left-out-lines, order-of, drawn-part};
+ghost use Rattle.ceremony.specs.Reports.{summary-of, left-out-of, left-out-lines, protocol-left, drawn-part};
+ghost use Rattle.protocol.specs.Protocol.{written};
 ghost use Rattle.std.specs.Of.String.{string-bytes};
+ghost use Rattle.std.specs.Of.Vec.{vec-items};
 ghost use Rattle.std.specs.Options.{mapped};
 ghost use Rattle.std.specs.Vec.{made};
 use crate::memory::ClosedList;
 use crate::memory::Memory;
 use crate::opening::opened_count;
 use order::Outcome;
+use protocol::write;
 use seals::has_opened;
 use std::alloc::AllocError;
 use std::alloc::Global;
@@ -72,5 +75,34 @@ impl Finished<'_> {
         ensures { λ r. ⌜ made r (λ s. string-bytes s ≡ left-out-of (as-ended (now (self .entry)))) ⌝ }
     {
         left_out_lines(heap, self.memory.seals, self.list.length, self.parties)
+    }
+
+    // The protocol of the draw.
+    pub fn protocol(&self, heap: Global) -> Result<Vec<u8>, AllocError>
+        ensures { λ r. ⌜ made r (λ v. vec-items v ≡ written (protocol-left (as-ended (now (self .entry))))) ⌝ }
+    {
+        let Memory {
+            slots,
+            index,
+            seals,
+            bits: _,
+            order,
+        } = &self.memory;
+        let ClosedList {
+            count,
+            length,
+            hash: _,
+        } = self.list;
+        write(
+            heap,
+            slots,
+            index,
+            count,
+            length,
+            seals,
+            self.parties,
+            order,
+            self.outcome,
+        )
     }
 }

@@ -18,10 +18,11 @@ use Rattle.order.specs.Drawings.{Drawing, drawn, run-out, drawn-order, outcome,
 use Rattle.order.proofs.Slices.{drawn-order-is}
 use Rattle.order.proofs.Turns.{drawing-length}
 use Rattle.ceremony.specs.declared.memory.ClosedList.{ClosedList}
+use Rattle.protocol.specs.Protocol.{ordered}
 use Rattle.ceremony.specs.Model.{Held, Sealed, Ended}
 use Rattle.ceremony.specs.Steps.{opened-count, drawing-of, order-after, list-to-draw, closed-with, final-close, with-order}
 use Rattle.ceremony.specs.Reports.{drawn-part, order-of}
-use Rattle.laws.specs.Sound.{In-opening, At-end, Closed, ordered, before-end}
+use Rattle.laws.specs.Sound.{In-opening, At-end, Closed, before-end}
 use Rattle.laws.proofs.Answers.{passed, ok-is, positive}
 
 module _ (n : ℕ) (bytes order : List ℕ) (l : n ≤ length order) (h : length bytes < 2 ^ 61) where

@@ -16,6 +16,7 @@ use Rattle.seals.specs.Steps.{sealed, opened}
 use Rattle.listing.proofs.Memory.{sound-none}
 use Rattle.order.specs.Drawings.{drawn-order}
 use Rattle.texts.specs.Lines.{order-words}
+use Rattle.protocol.specs.Protocol.{ordered}
 use Rattle.ceremony.specs.Model.{Listed, Sealed, Ended, no-entries}
 use Rattle.ceremony.specs.Steps.{entry-step, list-close, seal-step, seals-close, opening-step, opened-by, final-close}
 use Rattle.ceremony.specs.Reports.{order-of}
@@ -23,7 +24,7 @@ use Rattle.ceremony.specs.Draws.{State, listing, sealing, opening, ended, stepp
 use Rattle.steps.specs.File.{file-steps}
 use Rattle.runs.specs.Runs.{after-steps}
 use Rattle.runs.specs.Reports.{zeros, fresh, run-of}
-use Rattle.laws.specs.Sound.{Sound-state, In-listing, In-sealing, In-opening, At-end, ordered}
+use Rattle.laws.specs.Sound.{Sound-state, In-listing, In-sealing, In-opening, At-end}
 use Rattle.laws.specs.Laws.{Runs-sound, Sum-of-openings, Independence}
 use Rattle.laws.proofs.Refusals.{refused-unchanged}
 use Rattle.laws.proofs.Listings.{entry-sound, list-close-sound}

@@ -4,8 +4,6 @@ use mathlib.Core.Bool.{true, false}
 use mathlib.Core.List.{List}
 use Prim.Native.Nat.{ℕ, _*_, _<_, _≤_}
 use lib.ListN.{length, take}
-use Rattle.std.specs.declared.option.Option.{Option}
-use Rattle.std.specs.declared.option.Option.the-variants.{Some, None}
 use Rattle.entries.specs.Rows.{list-hash, most-names}
 use Rattle.listing.specs.Listing.{Listing, Sound}
 use Rattle.seals.specs.Seal.{seal-of}
@@ -13,7 +11,8 @@ use Rattle.seals.specs.Records.{record-size, seal-in, has-opened, opening-in}
 use Rattle.seals.specs.Steps.{most-parties}
 use Rattle.records.specs.Records.{opened-rows}
 use Rattle.sum.specs.Sums.{sum-of}
-use Rattle.order.specs.Drawings.{Drawing, drawn, run-out, drawn-order}
+use Rattle.order.specs.Drawings.{drawn-order}
+use Rattle.protocol.specs.Protocol.{ordered}
 use Rattle.ceremony.specs.Model.{Held, Listed, Sealed, Ended}
 use Rattle.ceremony.specs.Steps.{shortest, longest, opened-count}
 use Rattle.ceremony.specs.Reports.{order-of}
@@ -52,11 +51,6 @@ pub record In-opening (s : Sealed) : Type 0 where
 -- the state that was closed, with the order beside it
 abbrev pub before-end : Ended → Sealed
 before-end e = record { held = e .held; list = e .list; parties = e .parties }
-
--- the order that was drawn, if there is one
-abbrev pub ordered : Drawing → Option (List ℕ)
-ordered (drawn ns used) = Some ns
-ordered run-out = None
 
 -- at the end a party has opened, and the order is the one drawn from the sum
 pub record At-end (e : Ended) : Type 0 where

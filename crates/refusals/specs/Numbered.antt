@@ -1,7 +1,7 @@
 -- The number and the place of each refusal, as they are printed. Assumes nothing.
 use Prim.Native.Nat.{ℕ}
 use Rattle.refusals.specs.declared.Refusal.{Refusal}
-use Rattle.refusals.specs.declared.Refusal.the-variants.{NameLength, NameTaken, WrongTime, BitsLength, SealLength, NoSuchParty, OpeningLength, WrongOpening, Nothing, NoRoom}
+use Rattle.refusals.specs.declared.Refusal.the-variants.{NameLength, NameTaken, WrongTime, BitsLength, SealLength, NoSuchParty, OpeningLength, WrongOpening, Nothing, NoRoom, ProtocolLength, OutOfRange, BadOpening, WrongOrder}
 
 abbrev pub number : Refusal → ℕ
 number (NameLength n) = 1
@@ -14,6 +14,10 @@ number (OpeningLength n) = 7
 number (WrongOpening p) = 8
 number (Nothing what) = 9
 number (NoRoom what) = 10
+number (ProtocolLength at) = 11
+number (OutOfRange at) = 12
+number (BadOpening p) = 13
+number (WrongOrder at) = 14
 
 abbrev pub place : Refusal → ℕ
 place (NameLength n) = n
@@ -26,3 +30,7 @@ place (OpeningLength n) = n
 place (WrongOpening p) = p
 place (Nothing what) = what
 place (NoRoom what) = what
+place (ProtocolLength at) = at
+place (OutOfRange at) = at
+place (BadOpening p) = p
+place (WrongOrder at) = at

@@ -25,6 +25,15 @@ pub enum Refusal {
     Nothing(u8),
     // a lent slice is too short: 0 the list, 1 the seals, 2 the bits, 3 the order
     NoRoom(u8),
+    // a protocol that ends too early: its length; or that goes on: the place of the first byte too many
+    ProtocolLength(usize),
+    // a count, a length, a name or a byte that tells whether a party opened is out of range, or a name is not above the
+    // one before it: the place of its first byte
+    OutOfRange(usize),
+    // an opening that does not give its seal: the party; or none opened: 255
+    BadOpening(u8),
+    // the order, or the word whether there is one, is not the one drawn: the place of its first byte
+    WrongOrder(usize),
 }
 
 impl Refusal {
@@ -42,6 +51,10 @@ impl Refusal {
             Refusal::WrongOpening(_) => 8,
             Refusal::Nothing(_) => 9,
             Refusal::NoRoom(_) => 10,
+            Refusal::ProtocolLength(_) => 11,
+            Refusal::OutOfRange(_) => 12,
+            Refusal::BadOpening(_) => 13,
+            Refusal::WrongOrder(_) => 14,
         }
     }
 
@@ -51,7 +64,9 @@ impl Refusal {
         match self {
             Refusal::NameTaken | Refusal::WrongTime | Refusal::BitsLength => 0,
             Refusal::NameLength(n) | Refusal::SealLength(n) | Refusal::OpeningLength(n) => n,
-            Refusal::NoSuchParty(p) | Refusal::WrongOpening(p) => p as usize,
+            Refusal::ProtocolLength(at) | Refusal::OutOfRange(at) | Refusal::WrongOrder(at) => at,
+            Refusal::NoSuchParty(p) | Refusal::WrongOpening(p) | Refusal::BadOpening(p) =>
+                p as usize,
             Refusal::Nothing(what) | Refusal::NoRoom(what) => what as usize,
         }
     }

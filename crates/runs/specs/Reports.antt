@@ -7,7 +7,8 @@ use Rattle.std.specs.Of.String.{string-bytes}
 use Rattle.std.specs.Of.Vec.{vec-items}
 use Rattle.ceremony.specs.Model.{Held, Ended, no-entries}
 use Rattle.ceremony.specs.Draws.{State, listing, sealing, opening, ended}
-use Rattle.ceremony.specs.Reports.{summary-of, left-out-of}
+use Rattle.ceremony.specs.Reports.{summary-of, left-out-of, protocol-left}
+use Rattle.protocol.specs.Protocol.{written}
 use Rattle.steps.specs.File.{file-steps, file-cut}
 use Rattle.runs.specs.declared.report.Ending.{Ending}
 use Rattle.runs.specs.declared.report.Ending.the-variants.{Finished, Unfinished, Cut}
@@ -15,25 +16,26 @@ use Rattle.runs.specs.declared.report.Report.{Report}
 use Rattle.runs.specs.declared.report.Room.{Room}
 use Rattle.runs.specs.Runs.{after-steps, refusals-in, refusal-lines}
 
--- a line for each refused step; the summary of a finished draw, and the lines that name the parties left out; and how the file ends
+-- a line for each refused step; of a finished draw the summary, the lines that name the parties left out and the protocol; and how the file ends
 pub record Told : Type 0 where
   pub refusals : List ℕ
   pub summary : List ℕ
   pub left-out : List ℕ
+  pub protocol : List ℕ
   pub ending : Ending
 
 abbrev pub report : Report → Told
-report r = record { refusals = string-bytes (r .refusals); summary = string-bytes (r .summary); left-out = string-bytes (r .«left_out»); ending = r .ending }
+report r = record { refusals = string-bytes (r .refusals); summary = string-bytes (r .summary); left-out = string-bytes (r .«left_out»); protocol = vec-items (r .protocol); ending = r .ending }
 
-abbrev pub unsummed : List ℕ → Ending → Told
-unsummed lines how = record { refusals = lines; summary = []; left-out = []; ending = how }
+abbrev pub refusals-alone : List ℕ → Ending → Told
+refusals-alone lines how = record { refusals = lines; summary = []; left-out = []; protocol = []; ending = how }
 
 abbrev pub told-of : List ℕ → Bool → State → Told
-told-of lines true s = unsummed lines Cut
-told-of lines false (listing s) = unsummed lines Unfinished
-told-of lines false (sealing s) = unsummed lines Unfinished
-told-of lines false (opening s) = unsummed lines Unfinished
-told-of lines false (ended e) = record { refusals = lines; summary = summary-of e; left-out = left-out-of e; ending = Finished }
+told-of lines true s = refusals-alone lines Cut
+told-of lines false (listing s) = refusals-alone lines Unfinished
+told-of lines false (sealing s) = refusals-alone lines Unfinished
+told-of lines false (opening s) = refusals-alone lines Unfinished
+told-of lines false (ended e) = record { refusals = lines; summary = summary-of e; left-out = left-out-of e; protocol = written (protocol-left e); ending = Finished }
 
 -- memory that suffices for 2,000 names and 255 parties of 8,192 bytes, all zeros
 unfoldable pub zeros : Held

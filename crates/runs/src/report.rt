@@ -2,7 +2,7 @@
 ghost use mathlib.Core.List.{List, _++_};
 ghost use mathlib.Core.Path.{_≡_};
 ghost use Rattle.ceremony.specs.Draws.{state};
-ghost use Rattle.runs.specs.Reports.{report, report-of, contents, zeros, told-of};
+ghost use Rattle.runs.specs.Reports.{report, refusals-alone, told-of, report-of, contents, zeros};
 ghost use Rattle.std.specs.Of.String.{string-bytes};
 ghost use Rattle.std.specs.Vec.{made};
 use crate::run::run;
@@ -29,14 +29,28 @@ pub enum Ending {
     Cut,
 }
 
-// A line for each refused step; of a finished draw the summary, and the lines that name the parties whose openings have
-// not come.
+// A line for each refused step; of a finished draw the summary, the lines that name the parties whose openings have not
+// come, and the protocol.
 #[derive(Drop)]
 pub struct Report {
     pub refusals: String,
     pub summary: String,
     pub left_out: String,
+    pub protocol: Vec<u8>,
     pub ending: Ending,
+}
+
+// What is told of a run that does not end with a draw.
+fn untold(heap: Global, refusals: String, ending: Ending) -> Report
+    ensures { λ r. ⌜ report r ≡ refusals-alone (string-bytes refusals) ending ⌝ }
+{
+    Report {
+        refusals,
+        summary: String::new(heap),
+        left_out: String::new(heap),
+        protocol: Vec::new(heap),
+        ending,
+    }
 }
 
 // What is told of the last state of a run.
@@ -44,27 +58,19 @@ fn tell(heap: Global, draw: &Draw, cut: bool, refusals: String) -> Result<Report
     ensures { λ r. ⌜ made r (λ t. report t ≡ told-of (string-bytes refusals) cut (state (now (draw .entry)))) ⌝ }
 {
     if cut {
-        return Ok(Report {
-            refusals,
-            summary: String::new(heap),
-            left_out: String::new(heap),
-            ending: Ending::Cut,
-        });
+        return Ok(untold(heap, refusals, Ending::Cut));
     }
     let Draw::Finished(end) = draw else {
-        return Ok(Report {
-            refusals,
-            summary: String::new(heap),
-            left_out: String::new(heap),
-            ending: Ending::Unfinished,
-        });
+        return Ok(untold(heap, refusals, Ending::Unfinished));
     };
     let summary = end.summary(heap)?;
     let left_out = end.left_out(heap)?;
+    let protocol = end.protocol(heap)?;
     Ok(Report {
         refusals,
         summary,
         left_out,
+        protocol,
         ending: Ending::Finished,
     })
 }

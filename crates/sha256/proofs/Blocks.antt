@@ -2,15 +2,14 @@
 -- be whole.
 -- Assumes nothing.
 use mathlib.Core.Path.{_≡_, refl, sym, _∙_, ap}
-use mathlib.Core.Bool.{Bool, true, false, cond}
 use mathlib.Core.List.{List, [], _∷_, _++_}
 use mathlib.Core.Logic.{inl, inr}
 use Prim.Native.Nat.{ℕ, zero, suc, _+_, _*_, _/_, _%_, _^_, _<_, _≤_}
 use native.Mathlib.Numerals.{add-one}
 use native.Mathlib.Omega.{arith}
 use lib.Dec.{eqb}
-use lib.ListN.{length, take, drop, set}
-use Rattle.std.proofs.shelf.Lists.{take-all, take-take, take-append-le, drop-append-le, drop-all, append-assoc, append-nil, take-more-set, length-append, length-push, length-drop, length-set}
+use lib.ListN.{length, take, drop}
+use Rattle.std.proofs.shelf.Lists.{take-all, take-take, take-append-le, drop-append-le, drop-all, append-assoc, append-nil, take-more-set, length-push, length-drop, length-set}
 use Rattle.std.proofs.shelf.Tests.{cases-eq, eq-eqb, ne-eqb, cond-true, cond-false}
 use Rattle.sha256.specs.declared.state.State.{State}
 use Rattle.sha256.specs.declared.stream.Hasher.{Hasher}
@@ -48,9 +47,6 @@ unfolding after
 holds-none = record { sized = refl; counted = refl; reached = refl; waiting = refl }
 
 module _ (h : Hasher) (m : List ℕ) (byte : ℕ) (held : Holds h m) where
-  more : List ℕ
-  more = m ++ byte ∷ []
-
   fill : h .total % 64 ≡ length m % 64
   fill = omega (arith, held .counted)
 

@@ -1,8 +1,8 @@
 -- What callers of this crate cite: how parts of a message join, and that a hash is 32 bytes.
 -- Assumes nothing.
-use mathlib.Core.Path.{_≡_, refl, sym, _∙_, ap}
+use mathlib.Core.Path.{_≡_, refl, _∙_, ap}
 use mathlib.Core.List.{List, [], _∷_, _++_}
-use Prim.Native.Nat.{ℕ, zero, suc, _/_, _%_, _^_, _<_}
+use Prim.Native.Nat.{ℕ, zero, suc, _/_, _<_}
 use native.Mathlib.Omega.{arith}
 use lib.ListN.{length, getD}
 use Rattle.std.specs.Joined.{joined}
@@ -11,7 +11,7 @@ use Rattle.sha256.specs.Absorbed.{fresh, one-more, absorbed, finished}
 use Rattle.sha256.specs.Padding.{padding, padded}
 use Rattle.sha256.specs.Sha256.{after, four-bytes, words-of, bytes-of, sha256}
 use Rattle.sha256.proofs.Blocks.{Holds, holds-none, holds-all}
-use Rattle.sha256.proofs.Padding.{padding-mod}
+use Rattle.sha256.proofs.Tail.{padding-mod}
 
 -- two parts one after the other are as one
 pub absorbed-append : (h : Hasher) (a b : List ℕ) → absorbed (absorbed h a) b ≡ absorbed h (a ++ b)

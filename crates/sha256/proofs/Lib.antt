@@ -1,6 +1,6 @@
 mod Blocks
 mod Digits
-mod Padding
+mod Tail
 mod Pieces
 mod Steps
 pub mod Laws

@@ -8,7 +8,7 @@ use native.Mathlib.Nat.{add-zero}
 use native.Mathlib.Numerals.{add-one}
 use native.Mathlib.Omega.{arith}
 use lib.ListN.{length, getD, take, set}
-use Rattle.std.proofs.shelf.Lists.{take-all, take-more-set, getD-append-left, getD-push, getD-set-same, getD-set-other, length-push}
+use Rattle.std.proofs.shelf.Lists.{take-more-set, getD-append-left, getD-push, getD-set-same, getD-set-other, length-push}
 use Rattle.std.proofs.shelf.Tests.{cases-lt}
 use Rattle.sha256.specs.declared.state.State.{State}
 use Rattle.sha256.specs.Constants.{constants}

@@ -1,11 +1,11 @@
 -- The padding of a message of bytes: FIPS 180-4, section 5.1.1.
 -- Assumes nothing.
-use Prim.Native.Nat.{ℕ, _+_, _-_, _*_, _/_, _%_, _^_}
+use Prim.Native.Nat.{ℕ, _-_, _*_, _/_, _%_, _^_}
 use mathlib.Core.List.{List, [], _∷_, _++_}
 use lib.ListN.{length, replicate}
 
 -- the number x, below 2 ^ 64, in eight bytes, the highest first
-unfoldable pub eight-bytes : ℕ → List ℕ
+abbrev pub eight-bytes : ℕ → List ℕ
 eight-bytes x =
     x / 72057594037927936 % 256 ∷ x / 281474976710656 % 256 ∷ x / 1099511627776 % 256 ∷ x / 4294967296 % 256
     ∷ x / 16777216 % 256

@@ -32,28 +32,28 @@ fn step(s: State, w: &mut [u32; 16], run: usize, i: usize) -> State
     r
 }
 
-// The steps of a run are written out, so that each has its places in the window as literals: that makes the compiled code
-// a fifth faster than a loop over them.
-fn run_of_steps(s: State, w: &mut [u32; 16], run: usize) -> State
-    requires { ⌜ run < 3 ⌝ }
-    ensures { λ r. ⌜ ((block : List ℕ) (start : State) → Underway block start (16 * run) s (now (w .entry)) → Underway block start (16 * (run + 1)) r (now (w .exit))) ⌝ }
+// The steps of a run are written out, and the run is a const parameter, so that the compiled code has each step's constant
+// and places in the window as literals: a loop over the runs takes 7 percent longer.
+fn run_of_steps<const RUN: usize>(s: State, w: &mut [u32; 16]) -> State
+    requires { ⌜ RUN < 3 ⌝ }
+    ensures { λ r. ⌜ ((block : List ℕ) (start : State) → Underway block start (16 * RUN) s (now (w .entry)) → Underway block start (16 * (RUN + 1)) r (now (w .exit))) ⌝ }
 {
-    let s = step(s, w, run, 0);
-    let s = step(s, w, run, 1);
-    let s = step(s, w, run, 2);
-    let s = step(s, w, run, 3);
-    let s = step(s, w, run, 4);
-    let s = step(s, w, run, 5);
-    let s = step(s, w, run, 6);
-    let s = step(s, w, run, 7);
-    let s = step(s, w, run, 8);
-    let s = step(s, w, run, 9);
-    let s = step(s, w, run, 10);
-    let s = step(s, w, run, 11);
-    let s = step(s, w, run, 12);
-    let s = step(s, w, run, 13);
-    let s = step(s, w, run, 14);
-    step(s, w, run, 15)
+    let s = step(s, w, RUN, 0);
+    let s = step(s, w, RUN, 1);
+    let s = step(s, w, RUN, 2);
+    let s = step(s, w, RUN, 3);
+    let s = step(s, w, RUN, 4);
+    let s = step(s, w, RUN, 5);
+    let s = step(s, w, RUN, 6);
+    let s = step(s, w, RUN, 7);
+    let s = step(s, w, RUN, 8);
+    let s = step(s, w, RUN, 9);
+    let s = step(s, w, RUN, 10);
+    let s = step(s, w, RUN, 11);
+    let s = step(s, w, RUN, 12);
+    let s = step(s, w, RUN, 13);
+    let s = step(s, w, RUN, 14);
+    step(s, w, RUN, 15)
 }
 
 // The last sixteen rounds, after which no further word is needed.
@@ -82,9 +82,9 @@ pub(crate) fn compress(s: State, block: &[u8; 64]) -> State
     ensures { λ r. ⌜ r ≡ compressed s (now (block .entry)) ⌝ }
 {
     let mut w = schedule::first_words(block);
-    let a = run_of_steps(s, &mut w, 0);
-    let b = run_of_steps(a, &mut w, 1);
-    let c = run_of_steps(b, &mut w, 2);
+    let a = run_of_steps::<0>(s, &mut w);
+    let b = run_of_steps::<1>(a, &mut w);
+    let c = run_of_steps::<2>(b, &mut w);
     rounds::add(s, last_rounds(c, &w))
 }
 

@@ -8,6 +8,7 @@ ghost use mathlib.Core.Path.{_≡_};
 ghost use Rattle.sha256.specs.Sha256.{sha256};
 
 mod block;
+mod padding;
 mod rounds;
 mod schedule;
 mod state;

@@ -1,10 +1,10 @@
 // The hash of a message that comes in parts.
 ghost use mathlib.Core.Path.{_≡_};
 ghost use Prim.Native.Nat.{_+_, _%_, _≤_};
-ghost use lib.ListN.{length, take};
+ghost use lib.ListN.{length};
 ghost use Rattle.sha256.specs.Absorbed.{fresh, absorbed, finished};
-ghost use Rattle.sha256.specs.Padding.{padding};
 use crate::block;
+use crate::padding;
 use crate::rounds;
 use crate::state::State;
 
@@ -57,20 +57,8 @@ impl Hasher {
     pub fn finish(mut self) -> [u8; 32]
         ensures { λ r. ⌜ r ≡ finished self ⌝ }
     {
-        let (bytes, n) = tail(self.total);
+        let (bytes, n) = padding::tail(self.total);
         self.update(&bytes[0..n]);
         block::digest(self.state)
     }
-}
-
-// The padding of a message of `total` bytes, and its length.
-fn tail(total: u64) -> ([u8; 72], usize)
-    ensures bound { λ r. ⌜ r .1 ≤ 72 ⌝ }
-    ensures bytes { λ r. ⌜ take (r .1) (r .0) ≡ padding total ⌝ }
-{
-    let at = ((119 - total % 64) % 64) as usize + 1;
-    let mut bytes = [0u8; 72];
-    bytes[0] = 128;
-    bytes[at..at + 8].copy_from_slice(&total.wrapping_mul(8).to_be_bytes());
-    (bytes, at + 8)
 }

@@ -1,16 +1,14 @@
-use mathlib.Core.Path.{_≡_, sym, subst}
-use mathlib.Core.List.{List}
+use mathlib.Core.Path.{_≡_, subst}
 use Prim.Native.Nat.{ℕ, _+_, _*_}
-use native.Mathlib.Nat.{add-zero}
 use native.Mathlib.Omega.{arith}
 use Rattle.sha256.specs.Underway.{Underway}
 use Rattle.sha256.proofs.block.run_of_steps.Needs as need
 
 -- one step after the other
 pub returns : need.returns
-returns c = λ block start h.
-    let first : 16 * c .args .run ≡ 16 * c .args .run + 0 = omega arith in
-    let last : 16 * c .args .run + 16 ≡ 16 * (c .args .run + 1) = omega arith in
+returns g c = λ block start h.
+    let first : 16 * g .RUN ≡ 16 * g .RUN + 0 = omega arith in
+    let last : 16 * g .RUN + 16 ≡ 16 * (g .RUN + 1) = omega arith in
     let h0 = subst (λ (n : ℕ). Underway block start n (c .args .s) (c .args .w .now)) first h in
     let h1 = c .step-s .ensures block start h0 in
     let h2 = c .step-s-2 .ensures block start h1 in

@@ -1,5 +1,5 @@
-use mathlib.Core.Path.{_≡_, refl, sym, _∙_, ap}
-use mathlib.Core.List.{List, _++_}
+use mathlib.Core.Path.{_≡_, refl, _∙_, ap}
+use mathlib.Core.List.{List}
 use Prim.Native.Nat.{ℕ, _+_, _-_}
 use native.Mathlib.Omega.{arith}
 use lib.ListN.{take, drop}
@@ -20,10 +20,12 @@ loop-at-again c =
     let part : List ℕ = c .args .part .now in
     let at : ℕ = c .loop-at .at in
     let n : ℕ = c .min-n .result in
-    let width : at + n - at ≡ n = omega arith in (
+    let width : at + n - at ≡ n = omega arith in
+    let piece : List ℕ = take (at + n - at) (drop at part) in
+    let taken : c .absorb .last .self ≡ absorbed (c .loop-at .self) piece = c .absorb .ensures in (
       omega arith,
-      c .absorb .ensures ∙ ap (λ (h : Hasher). absorbed h (take (at + n - at) (drop at part))) (c .loop-at .inv .1)
-          ∙ absorbed-append (c .args .self .now) (take at part) (take (at + n - at) (drop at part))
+      taken ∙ ap (λ (h : Hasher). absorbed h piece) (c .loop-at .inv .1)
+          ∙ absorbed-append (c .args .self .now) (take at part) piece
           ∙ ap (absorbed (c .args .self .now)) (front-more part at n (at + n - at) width),
     )
 
