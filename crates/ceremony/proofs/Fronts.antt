@@ -1,21 +1,20 @@
 -- An order drawn into the first places of a slice. Assumes nothing.
 use mathlib.Core.Path.{_≡_, refl, sym, ap, _∙_}
 use mathlib.Core.List.{List, [], _++_, append-nil}
-use Prim.Native.Nat.{ℕ, _^_, _-_, min, _≤_, _<_}
+use Prim.Native.Nat.{ℕ, _-_, min, _≤_, _<_}
 use native.Mathlib.Omega.{arith}
 use lib.ListN.{length, take, drop}
 use Rattle.std.proofs.shelf.Lists.{take-append-drop, drop-all, length-take, length-take-le}
-use Rattle.order.specs.Drawings.{Drawing, drawn, run-out, drawing, drawn-order, left-in}
-use Rattle.order.proofs.Slices.{drawn-order-is}
-use Rattle.order.proofs.Turns.{drawing-length}
+use Rattle.order.specs.Drawings.{Drawing, drawn, run-out, drawn-order, left-in}
+use Rattle.order.proofs.Slices.{drawn-length}
 
-pub left-front : (n : ℕ) (bytes order : List ℕ) → n ≤ length order → length bytes < 2 ^ 61
+pub left-front : (n : ℕ) (bytes order : List ℕ) → n ≤ length order
     → left-in (drawn-order n bytes 0) (take n order) ++ drop n order ≡ left-in (drawn-order n bytes 0) order
-left-front n bytes order l h = go (drawn-order n bytes 0) refl
+left-front n bytes order l = go (drawn-order n bytes 0) refl
   where
     go : (d : Drawing) → drawn-order n bytes 0 ≡ d → left-in d (take n order) ++ drop n order ≡ left-in d order
     go (drawn ns used) e =
-        let k : length ns ≡ n = drawing-length n _ ns used (sym (drawn-order-is n bytes 0 h) ∙ e) in
+        let k : length ns ≡ n = drawn-length n bytes 0 ns used e in
         let z : drop (length ns) (take n order) ≡ [] = drop-all (length ns) (take n order) (omega (arith, length-take n order)) in
         simp (z, append-nil) (ap (λ (j : ℕ). ns ++ drop j order) (sym k))
     go run-out e = take-append-drop n order

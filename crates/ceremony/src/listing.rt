@@ -44,34 +44,23 @@ impl<'a> Listing<'a> {
             },
             count,
         } = self;
-        match enter(slots, index, count, name) {
-            Ok(count) => (
-                Listing {
-                    memory: Memory {
-                        slots,
-                        index,
-                        seals,
-                        bits,
-                        order,
-                    },
-                    count,
+        let (count, answer) = match enter(slots, index, count, name) {
+            Ok(more) => (more, Ok(())),
+            Err(why) => (count, Err(why)),
+        };
+        (
+            Listing {
+                memory: Memory {
+                    slots,
+                    index,
+                    seals,
+                    bits,
+                    order,
                 },
-                Ok(()),
-            ),
-            Err(why) => (
-                Listing {
-                    memory: Memory {
-                        slots,
-                        index,
-                        seals,
-                        bits,
-                        order,
-                    },
-                    count,
-                },
-                Err(why),
-            ),
-        }
+                count,
+            },
+            answer,
+        )
     }
 
     // Closes the list; `bytes` say how many bytes each party is to put in.

@@ -87,40 +87,25 @@ impl<'a> Opening<'a> {
             list,
             parties,
         } = self;
-        match open(seals, list.length, parties, &list.hash, party, opening) {
-            Ok(()) => {
-                let (_, row) = opening.split_at(SALT);
-                add(bits, row);
-                (
-                    Opening {
-                        memory: Memory {
-                            slots,
-                            index,
-                            seals,
-                            bits,
-                            order,
-                        },
-                        list,
-                        parties,
-                    },
-                    Ok(()),
-                )
-            }
-            Err(why) => (
-                Opening {
-                    memory: Memory {
-                        slots,
-                        index,
-                        seals,
-                        bits,
-                        order,
-                    },
-                    list,
-                    parties,
-                },
-                Err(why),
-            ),
+        let answer = open(seals, list.length, parties, &list.hash, party, opening);
+        if answer.is_ok() {
+            let (_, row) = opening.split_at(SALT);
+            add(bits, row);
         }
+        (
+            Opening {
+                memory: Memory {
+                    slots,
+                    index,
+                    seals,
+                    bits,
+                    order,
+                },
+                list,
+                parties,
+            },
+            answer,
+        )
     }
 
     // The final close draws the order from the sum.

@@ -31,36 +31,24 @@ impl<'a> Sealing<'a> {
             list,
             parties,
         } = self;
-        match add_seal(seals, list.length, parties, seal) {
-            Ok(parties) => (
-                Sealing {
-                    memory: Memory {
-                        slots,
-                        index,
-                        seals,
-                        bits,
-                        order,
-                    },
-                    list,
-                    parties,
+        let (parties, answer) = match add_seal(seals, list.length, parties, seal) {
+            Ok(more) => (more, Ok(())),
+            Err(why) => (parties, Err(why)),
+        };
+        (
+            Sealing {
+                memory: Memory {
+                    slots,
+                    index,
+                    seals,
+                    bits,
+                    order,
                 },
-                Ok(()),
-            ),
-            Err(why) => (
-                Sealing {
-                    memory: Memory {
-                        slots,
-                        index,
-                        seals,
-                        bits,
-                        order,
-                    },
-                    list,
-                    parties,
-                },
-                Err(why),
-            ),
-        }
+                list,
+                parties,
+            },
+            answer,
+        )
     }
 
     // Closes the seals: from here on no more are taken, and openings begin.

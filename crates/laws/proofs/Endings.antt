@@ -2,7 +2,7 @@
 use mathlib.Core.Path.{_≡_, refl, sym, ap, subst, _∙_}
 use mathlib.Core.Bool.{Bool, true, false, cond}
 use mathlib.Core.List.{List, [], _++_}
-use Prim.Native.Nat.{ℕ, zero, suc, _^_, _≤_, _<_}
+use Prim.Native.Nat.{ℕ, zero, suc, _≤_, _<_}
 use native.Mathlib.Omega.{arith}
 use lib.Dec.{eqb, ltb}
 use lib.ListN.{length, take, drop}
@@ -10,13 +10,12 @@ use Rattle.std.specs.declared.option.Option.{Option}
 use Rattle.std.specs.declared.option.Option.the-variants.{Some, None}
 use Rattle.std.specs.declared.result.Result.{Result}
 use Rattle.std.specs.declared.result.Result.the-variants.{Ok, Err}
-use Rattle.std.proofs.shelf.Lists.{take-at, length-append, length-drop, length-take}
+use Rattle.std.proofs.shelf.Lists.{take-at, length-append, length-drop}
 use Rattle.std.proofs.shelf.Tests.{eqb-false}
 use Rattle.refusals.specs.declared.Refusal.{Refusal}
 use Rattle.refusals.specs.declared.Refusal.the-variants.{Nothing, NoRoom}
 use Rattle.order.specs.Drawings.{Drawing, drawn, run-out, drawn-order, outcome, left-in}
-use Rattle.order.proofs.Slices.{drawn-order-is}
-use Rattle.order.proofs.Turns.{drawing-length}
+use Rattle.order.proofs.Slices.{drawn-length}
 use Rattle.ceremony.specs.declared.memory.ClosedList.{ClosedList}
 use Rattle.protocol.specs.Protocol.{ordered}
 use Rattle.ceremony.specs.Model.{Held, Sealed, Ended}
@@ -25,13 +24,13 @@ use Rattle.ceremony.specs.Reports.{drawn-part, order-of}
 use Rattle.laws.specs.Sound.{In-opening, At-end, Closed, before-end}
 use Rattle.laws.proofs.Answers.{passed, ok-is, positive}
 
-module _ (n : ℕ) (bytes order : List ℕ) (l : n ≤ length order) (h : length bytes < 2 ^ 61) where
+module _ (n : ℕ) (bytes order : List ℕ) (l : n ≤ length order) where
   -- the first places of the slice hold the order that was drawn
   order-is : drawn-part (left-in (drawn-order n bytes 0) order) n (outcome (drawn-order n bytes 0)) ≡ ordered (drawn-order n bytes 0)
   order-is = go (drawn-order n bytes 0) refl
     where
       go : (d : Drawing) → drawn-order n bytes 0 ≡ d → drawn-part (left-in d order) n (outcome d) ≡ ordered d
-      go (drawn ns used) e = ap Some (take-at ns (drop (length ns) order) n (drawing-length n _ ns used (sym (drawn-order-is n bytes 0 h) ∙ e)))
+      go (drawn ns used) e = ap Some (take-at ns (drop (length ns) order) n (drawn-length n bytes 0 ns used e))
       go run-out e = refl
 
   -- and the slice is as long as it was
@@ -40,16 +39,13 @@ module _ (n : ℕ) (bytes order : List ℕ) (l : n ≤ length order) (h : length
     where
       go : (d : Drawing) → drawn-order n bytes 0 ≡ d → length (left-in d order) ≡ length order
       go (drawn ns used) e =
-          let k = drawing-length n _ ns used (sym (drawn-order-is n bytes 0 h) ∙ e) in
+          let k = drawn-length n bytes 0 ns used e in
           omega (arith, length-append ns (drop (length ns) order), length-drop (length ns) order, k, l)
       go run-out e = refl
 
 module _ (s : Sealed) (i : In-opening s) where
   end-of : Ended
   end-of = record { held = with-order (s .held) (order-after s); list = s .list; parties = s .parties; outcome = outcome (drawing-of s) }
-
-  short : length (take (s .list .length) (s .held .bits)) < 2 ^ 61
-  short = let a = length-take (s .list .length) (s .held .bits) in let b = i .closed .few-bits in omega (arith, a, b)
 
   at-end : 0 < opened-count (s .held .seals) (s .list .length) (s .parties) → At-end end-of
   unfolding end-of
@@ -66,7 +62,7 @@ module _ (s : Sealed) (i : In-opening s) where
               enough-bits = c .enough-bits;
               few-bits = c .few-bits;
               bits-room = c .bits-room;
-              order-room = let q = order-length (s .list .count) bytes (s .held .order) (c .order-room) short in omega (arith, q, c .order-room);
+              order-room = let q = order-length (s .list .count) bytes (s .held .order) (c .order-room) in omega (arith, q, c .order-room);
               few-parties = c .few-parties;
               records-room = c .records-room;
               given = c .given;
@@ -74,7 +70,7 @@ module _ (s : Sealed) (i : In-opening s) where
             };
         some-parties = i .some-parties;
         some-opened = o;
-        order = order-is (s .list .count) bytes (s .held .order) (c .order-room) short;
+        order = order-is (s .list .count) bytes (s .held .order) (c .order-room);
       }
 
   pub final-sound : (e : Ended) → final-close s ≡ Ok e → At-end e

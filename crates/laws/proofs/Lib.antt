@@ -6,3 +6,5 @@ pub mod Sealings
 pub mod Openings
 pub mod Endings
 pub mod Runs
+pub mod Bytes
+pub mod Protocols

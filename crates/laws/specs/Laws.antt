@@ -6,7 +6,9 @@ use lib.ListN.{length, getD, take}
 use Rattle.std.specs.declared.option.Option.the-variants.{Some}
 use Rattle.refusals.specs.declared.Refusal.{Refusal}
 use Rattle.ceremony.specs.Model.{Ended}
-use Rattle.ceremony.specs.Reports.{order-of}
+use Rattle.ceremony.specs.Reports.{order-of, summary-of, protocol-left}
+use Rattle.protocol.specs.Draws.{Bytes, Of-draw, acceptance}
+use Rattle.protocol.specs.Texts.{verdict-text}
 use Rattle.ceremony.specs.Draws.{State, ended, step}
 use Rattle.records.specs.Records.{opened-rows}
 use Rattle.sum.specs.Sums.{sum-of}
@@ -43,3 +45,9 @@ abbrev pub Independence : Type 0
 Independence =
     (file file′ : List ℕ) (e e′ : Ended) → run-of file ≡ ended e → run-of file′ ≡ ended e′ → e .list .count ≡ e′ .list .count →
     take (e .list .length) (e .held .bits) ≡ take (e′ .list .length) (e′ .held .bits) → order-words (order-of e) ≡ order-words (order-of e′)
+
+-- EVERY RUN'S PROTOCOL: the protocol of every file of bytes whose run ends is the protocol of a draw, and what a check tells of such a protocol is what the
+-- draw printed
+abbrev pub Run-protocols : Type 0
+Run-protocols =
+    (file : List ℕ) (e : Ended) → Bytes file → run-of file ≡ ended e → Of-draw (protocol-left e) × (verdict-text (acceptance (protocol-left e)) ≡ summary-of e)

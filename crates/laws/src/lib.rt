@@ -1,6 +1,6 @@
 // The laws of whole runs, over the definitions that the contracts of `runs` and `ceremony` cite. No program calls these
 // functions: each is there so that its contract demands the proof of a law.
-ghost use Rattle.laws.specs.Laws.{Refused-unchanged, Sealed-first, Runs-sound, Sum-of-openings, Independence};
+ghost use Rattle.laws.specs.Laws.{Refused-unchanged, Sealed-first, Runs-sound, Sum-of-openings, Independence, Run-protocols};
 
 // A refused step changes nothing.
 pub fn refused_unchanged_stands() -> u8
@@ -33,6 +33,13 @@ pub fn sum_of_openings_stands() -> u8
 // The order depends on nothing but the number of names and the sum.
 pub fn independence_stands() -> u8
     ensures { λ _. ⌜ Independence ⌝ }
+{
+    0
+}
+
+// The protocol of every run that ends is the protocol of a draw.
+pub fn run_protocols_stands() -> u8
+    ensures { λ _. ⌜ Run-protocols ⌝ }
 {
     0
 }

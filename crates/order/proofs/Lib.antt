@@ -1,5 +1,8 @@
 pub mod Names
 pub mod Turns
-pub mod InPlace
+pub mod Moves
+pub mod Numbering
 pub mod Rests
 pub mod Slices
+pub mod Once
+pub mod Used

@@ -1,12 +1,12 @@
 -- A turn of the recursion: one number drawn, and then the names left. Assumes nothing.
-use lib.ListN.{length, drop}
-use mathlib.Core.List.{List, [], _∷_, _++_, map}
-use mathlib.Core.Path.{_≡_, refl, sym, ap, ap₂, _∙_}
+use lib.ListN.{length, getD}
+use mathlib.Core.List.{List, [], _∷_}
+use mathlib.Core.Path.{_≡_, refl, sym, ap, _∙_}
 use native.Mathlib.Omega.{arith}
-use Prim.Native.Nat.{ℕ, zero, suc, _+_, _-_, _<_, _≤_}
-use Rattle.order.proofs.Names.{names-first, names-length, names-below, Below}
-use Rattle.order.specs.Drawings.{read-on, bits-read, Drawing, drawn, run-out, told, drawing}
-use Rattle.order.specs.Orders.{Order, some, none, put, next, order, Valid, names, numbers-from, written, order-names, raise}
+use Prim.Native.Nat.{ℕ, zero, suc, _+_, _-_, _<_}
+use Rattle.order.proofs.Names.{length-without, length-from, names-length}
+use Rattle.order.specs.Drawings.{bits-read, Drawing, drawn, run-out, told, drawing-of, drawn-from}
+use Rattle.order.specs.Orders.{Order, some, none, put, next, order, Valid, without, names, numbers-from, written, order-names}
 use Rattle.uniform.proofs.Draws.{draw-below}
 use Rattle.uniform.specs.Draws.{Drawn, got, out, draw}
 
@@ -40,47 +40,50 @@ order-valid (suc n) bs ks e =
     let p = order-parts n bs ks e in
     rw (p .made) (draw-below (suc (length bs)) (suc n) bs (p .first) (p .left) (p .drew), order-valid n (p .left) (p .later) (p .found))
 
--- a drawing whose first number is k, from j bits
+-- a drawing whose first name is x, from j bits
 unfoldable pub with-first : ℕ → ℕ → Drawing → Drawing
-with-first k j (drawn ns used) = drawn (k ∷ map (raise k) ns) (j + used)
-with-first k j run-out = run-out
+with-first x j (drawn ns used) = drawn (x ∷ ns) (j + used)
+with-first x j run-out = run-out
 
-pub drawing-none : (bs : List ℕ) → drawing 0 bs ≡ drawn [] 0
-unfolding drawing order-names written order names bits-read
-drawing-none bs = refl
+pub drawing-none : (ls bs : List ℕ) → length ls ≡ 0 → drawing-of ls bs ≡ drawn [] 0
+unfolding drawing-of written order names bits-read
+drawing-none [] bs e = refl
+drawing-none (x ∷ ls) bs e = absurd (omega arith)
 
-pub drawing-out : (n : ℕ) (bs : List ℕ) → draw (suc (length bs)) (suc n) bs ≡ out → drawing (suc n) bs ≡ run-out
-unfolding drawing order-names written order next
-drawing-out n bs e = rw e
+pub drawing-out : (ls bs : List ℕ) → 0 < length ls → draw (suc (length bs)) (length ls) bs ≡ out → drawing-of ls bs ≡ run-out
+unfolding drawing-of written order next
+drawing-out [] bs h e = absurd (omega arith)
+drawing-out (x ∷ ls) bs h e = rw e
 
-pub drawing-got : (n : ℕ) (bs : List ℕ) (k : ℕ) (rest : List ℕ) → k < suc n → draw (suc (length bs)) (suc n) bs ≡ got k rest
-    → drawing (suc n) bs ≡ with-first k (length bs - length rest) (drawing n rest)
-unfolding drawing order-names order next bits-read
-drawing-got n bs k rest l e = rw e (go (order n rest) refl)
+pub drawing-got : (ls bs : List ℕ) (k : ℕ) (rest : List ℕ) → k < length ls → draw (suc (length bs)) (length ls) bs ≡ got k rest
+    → drawing-of ls bs ≡ with-first (getD ls k 0) (length bs - length rest) (drawing-of (without k ls) rest)
+unfolding drawing-of order next bits-read
+drawing-got [] bs k rest l e = absurd (omega arith)
+drawing-got (x ∷ ls) bs k rest l e =
+    let n : length (without k (x ∷ ls)) ≡ length ls = omega (arith, length-without k (x ∷ ls) l) in
+    rw (e, n) (go (order (length ls) rest))
   where
-    go : (o : Order) → order n rest ≡ o
-        → told (written (suc n) (put k (order n rest))) ((length bs - length rest) + bits-read n rest)
-        ≡ with-first k (length bs - length rest) (told (written n (order n rest)) (bits-read n rest))
-    go (some ks) d = rw d (unfold written put with-first Valid in ap (λ z. drawn z ((length bs - length rest) + bits-read n rest)) (names-first n k ks (l, order-valid n rest ks d)))
-    go none d = rw d (unfold written put with-first in refl)
+    go : (o : Order)
+        → told (written (x ∷ ls) (put k o)) ((length bs - length rest) + bits-read (length ls) rest)
+        ≡ with-first (getD (x ∷ ls) k 0) (length bs - length rest) (told (written (without k (x ∷ ls)) o) (bits-read (length ls) rest))
+    go (some ks) = unfold written put names with-first in refl
+    go none = unfold written put with-first in refl
 
--- the names of a drawing are as many as were asked for, and each below that
-drawing-sized : (n : ℕ) (bs ns : List ℕ) (used : ℕ) → drawing n bs ≡ drawn ns used → (length ns ≡ n) × Below n ns
-unfolding drawing order-names
-drawing-sized n bs ns used e = go (order n bs) refl
+-- the drawing of the names 0 to n - 1
+pub drawing-numbers : (n : ℕ) (bs : List ℕ) → drawing-of (numbers-from 0 n) bs ≡ drawn-from n bs
+unfolding drawing-of drawn-from order-names
+drawing-numbers n bs = rw (length-from 0 n)
+
+-- the names of a drawing are as many as were asked for
+pub drawing-length : (ls bs ns : List ℕ) (used : ℕ) → drawing-of ls bs ≡ drawn ns used → length ns ≡ length ls
+unfolding drawing-of
+drawing-length ls bs ns used e = go (order (length ls) bs) refl
   where
-    go : (o : Order) → order n bs ≡ o → (length ns ≡ n) × Below n ns
+    go : (o : Order) → order (length ls) bs ≡ o → length ns ≡ length ls
     go (some ks) d =
-        let x : drawn (names (numbers-from 0 n) ks) (bits-read n bs) ≡ drawn ns used = unfold written in ap (λ z. told (written n z) (bits-read n bs)) (sym d) ∙ e in
-        let y : names (numbers-from 0 n) ks ≡ ns = cc in
-        let v = order-valid n bs ks d in
-        rw (sym y) (names-length n (numbers-from 0 n) ks v, names-below n ks v)
+        let x : drawn (names ls ks) (bits-read (length ls) bs) ≡ drawn ns used = unfold written in ap (λ z. told (written ls z) (bits-read (length ls) bs)) (sym d) ∙ e in
+        let y : names ls ks ≡ ns = cc in
+        ap length (sym y) ∙ names-length (length ls) ls ks (order-valid (length ls) bs ks d)
     go none d =
-        let x : run-out ≡ drawn ns used = unfold written in ap (λ z. told (written n z) (bits-read n bs)) (sym d) ∙ e in
+        let x : run-out ≡ drawn ns used = unfold written in ap (λ z. told (written ls z) (bits-read (length ls) bs)) (sym d) ∙ e in
         let z : _≡_ {A = ℕ} 0 1 = cc in absurd (omega arith)
-
-pub drawing-length : (n : ℕ) (bs ns : List ℕ) (used : ℕ) → drawing n bs ≡ drawn ns used → length ns ≡ n
-drawing-length n bs ns used e = drawing-sized n bs ns used e .0
-
-pub drawing-below : (n : ℕ) (bs ns : List ℕ) (used : ℕ) → drawing n bs ≡ drawn ns used → Below n ns
-drawing-below n bs ns used e = drawing-sized n bs ns used e .1

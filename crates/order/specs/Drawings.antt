@@ -6,7 +6,7 @@ use mathlib.Core.List.{List, _++_}
 use Prim.Native.Nat.{ℕ, zero, suc, _+_, _-_, _^_}
 use Rattle.order.specs.declared.Outcome.the-variants.{Drawn as InOrder, RunOut}
 use Rattle.order.specs.declared.Outcome.{Outcome}
-use Rattle.order.specs.Orders.{Order, some, none, order-names}
+use Rattle.order.specs.Orders.{Order, some, none, order, written, order-names}
 use Rattle.std.specs.declared.option.Option.the-variants.{Some, None}
 use Rattle.std.specs.declared.option.Option.{Option}
 use Rattle.uniform.specs.Bits.{bits}
@@ -31,13 +31,17 @@ abbrev pub told : Order → ℕ → Drawing
 told (some ns) used = drawn ns used
 told none used = run-out
 
--- the drawing of n names from a row of bits
-unfoldable pub drawing : ℕ → List ℕ → Drawing
-drawing n bs = told (order-names n bs) (bits-read n bs)
+-- the drawing of these names from a row of bits
+unfoldable pub drawing-of : List ℕ → List ℕ → Drawing
+drawing-of ls bs = told (written ls (order (length ls) bs)) (bits-read (length ls) bs)
+
+-- the drawing of the names 0 to n - 1
+unfoldable pub drawn-from : ℕ → List ℕ → Drawing
+drawn-from n bs = told (order-names n bs) (bits-read n bs)
 
 -- the drawing of n names from the bits of bytes, from a place on. Places are numbers of 64 bits: bytes whose bits have no such place give no order
 unfoldable pub drawn-order : ℕ → List ℕ → ℕ → Drawing
-drawn-order n bytes from = cond (ltb (length bytes) (2 ^ 61)) (drawing n (drop from (bits bytes))) run-out
+drawn-order n bytes from = cond (ltb (length bytes) (2 ^ 61)) (drawn-from n (drop from (bits bytes))) run-out
 
 -- the answer to a drawing
 abbrev pub outcome : Drawing → Outcome

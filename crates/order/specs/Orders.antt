@@ -1,9 +1,9 @@
 -- An order of n names drawn from bits, by its numbers and by its names. Assumes nothing: these are definitions.
-use lib.Dec.{ltb}
+use lib.Dec.{eqb}
 use lib.ListN.{length, getD}
 use mathlib.Core.Bool.{cond}
 use mathlib.Core.List.{List, [], _∷_}
-use Prim.Native.Nat.{ℕ, zero, suc, _<_}
+use Prim.Native.Nat.{ℕ, zero, suc, _+_, _<_}
 use Rattle.uniform.specs.Draws.{Drawn, got, out, draw}
 
 -- an order, or none where the bits ran out
@@ -49,14 +49,16 @@ unfoldable pub numbers-from : ℕ → ℕ → List ℕ
 numbers-from s zero = []
 numbers-from s (suc n) = s ∷ numbers-from (suc s) n
 
--- an order of the names 0 to n - 1 as those names one after another
-unfoldable pub written : ℕ → Order → Order
-written n (some ks) = some (names (numbers-from 0 n) ks)
-written n none = none
+-- an order of those names as the names one after another
+unfoldable pub written : List ℕ → Order → Order
+written ls (some ks) = some (names ls ks)
+written ls none = none
 
+-- the order of the names 0 to n - 1 that a row of bits draws
 unfoldable pub order-names : ℕ → List ℕ → Order
-order-names n bs = written n (order n bs)
+order-names n bs = written (numbers-from 0 n) (order n bs)
 
--- the numbers 0, 1, .. without k, counted again
-abbrev pub raise : ℕ → ℕ → ℕ
-raise k x = cond (ltb x k) x (suc x)
+-- how often x stands in a list
+unfoldable pub times : ℕ → List ℕ → ℕ
+times x [] = 0
+times x (y ∷ ys) = cond (eqb y x) 1 0 + times x ys

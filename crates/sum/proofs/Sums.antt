@@ -4,10 +4,10 @@ use lib.ListN.{length, getD, set, replicate, length-replicate}
 use mathlib.Core.List.{List, [], _∷_, _++_}
 use mathlib.Core.Path.{_≡_, refl, sym, ap, ap₂, _∙_}
 use native.Mathlib.Omega.{arith}
-use Prim.Native.Nat.{ℕ, zero, suc, _≤_, _<_}
+use Prim.Native.Nat.{ℕ, zero, suc, _<_}
 use Rattle.std.proofs.shelf.Bits.{xor-comm}
 use Rattle.std.proofs.shelf.Sorted.{shuffled-keeps}
-use Rattle.std.specs.Slices.{Shuffled, exchanged}
+use Rattle.std.specs.Slices.{exchanged}
 use Rattle.sum.specs.Laws.{Any-order, One-more}
 use Rattle.sum.specs.Sums.{xor-bytes, sum-from, sum-of}
 
@@ -45,9 +45,9 @@ unfolding sum-from
 sum-last s [] row = refl
 sum-last s (r ∷ rows) row = sum-last (xor-bytes s r) rows row
 
-pub one-more : (before row after : List ℕ) → after ≡ xor-bytes before row → One-more before row after
+pub one-more-holds : (before row after : List ℕ) → after ≡ xor-bytes before row → One-more before row after
 unfolding sum-of
-one-more before row after e L rows h = e ∙ ap (λ z. xor-bytes z row) h ∙ sym (sum-last (replicate L 0) rows row)
+one-more-holds before row after e L rows h = e ∙ ap (λ z. xor-bytes z row) h ∙ sym (sum-last (replicate L 0) rows row)
 
 -- all rows but row i
 pub but : ℕ → List (List ℕ) → List (List ℕ)
@@ -91,9 +91,9 @@ swap-any s (r ∷ rows) zero (suc j) d h l = swap-first s r rows j d (omega arit
 swap-any s (r ∷ rows) (suc i) zero d h l = swap-first s r rows i d (omega arith)
 swap-any s (r ∷ rows) (suc i) (suc j) d h l = swap-any (xor-bytes s r) rows i j d (omega arith) (omega arith)
 
-pub any-order : Any-order
+pub any-order-holds : Any-order
 unfolding sum-of
-any-order L rows again h = shuffled-keeps rows (λ those. sum-from (replicate L 0) those ≡ sum-from (replicate L 0) rows) refl step again h
+any-order-holds L rows again h = shuffled-keeps rows (λ those. sum-from (replicate L 0) those ≡ sum-from (replicate L 0) rows) refl step again h
   where
     step : (those : List (List ℕ)) (i j : ℕ) → i < length those → j < length those → sum-from (replicate L 0) those ≡ sum-from (replicate L 0) rows
         → sum-from (replicate L 0) (exchanged those i j) ≡ sum-from (replicate L 0) rows

@@ -5,8 +5,7 @@ use mathlib.Core.Path.{_≡_, refl, sym, ap, _∙_}
 use native.Mathlib.Omega.{arith}
 use Prim.Native.Nat.{ℕ, zero, suc, _+_, _*_, _<_}
 use Rattle.std.proofs.shelf.Lists.{drop-all, drop-drop}
-use Rattle.uniform.proofs.Numbers.{Bits}
-use Rattle.uniform.specs.Bits.{byte-bits, bits}
+use Rattle.uniform.specs.Bits.{byte-bits, bits, Bits}
 use Rattle.uniform.specs.Draws.{number}
 
 -- bits are 0 or 1, 8 a byte

@@ -2,15 +2,15 @@
 use lib.Dec.{ltb}
 use lib.ListN.{length, take, drop, length-append}
 use mathlib.Core.Bool.{Bool, true, false, cond}
-use mathlib.Core.List.{List, [], _∷_, _++_, append-assoc}
+use mathlib.Core.List.{List, _++_, append-assoc}
 use mathlib.Core.Logic.{_⊎_, inl, inr}
 use mathlib.Core.Path.{_≡_, refl, sym, ap, ap₂, subst, _∙_}
 use native.Mathlib.Omega.{arith}
-use Prim.Native.Nat.{ℕ, zero, suc, _+_, _*_, _≤_, _<_}
+use Prim.Native.Nat.{ℕ, zero, suc, _+_, _≤_, _<_}
 use Rattle.std.proofs.shelf.Lists.{length-take-le, take-append-drop, drop-at}
 use Rattle.std.proofs.shelf.Tests.{ltb-true, lt-ltb, le-ltb, cases-lt}
 use Rattle.uniform.proofs.Numbers.{number-more}
-use Rattle.uniform.specs.Draws.{width, number, Drawn, got, out, draw}
+use Rattle.uniform.specs.Draws.{width, number, got, out, draw}
 
 pub draw-short : (f n : ℕ) (bs : List ℕ) → length bs < width n → draw f n bs ≡ out
 unfolding draw
@@ -83,7 +83,7 @@ module _ (n : ℕ) (bs : List ℕ) (pos : 0 < n) (long : width n ≤ length bs) 
           ∙ ap₂ got (same cs) (drop-at (take (width n) bs) cs (width n) taken)
 
   -- a number that is thrown away has bits
-  wide : n ≤ number (width n) 0 bs → 0 < width n
+  pub wide : n ≤ number (width n) 0 bs → 0 < width n
   wide h = go (width n) h
     where
       go : (w : ℕ) → n ≤ number w 0 bs → 0 < w

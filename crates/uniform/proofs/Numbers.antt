@@ -1,17 +1,15 @@
 -- Bits read as a number: in two parts, behind what is read so far, with more bits behind them. Assumes nothing.
-use lib.ListN.{length, getD, drop}
+use lib.ListN.{length, drop}
 use lib.Pow.{pow-pos}
 use mathlib.Core.List.{List, [], _∷_, _++_}
 use mathlib.Core.Path.{_≡_, refl, sym, ap, _∙_}
-use native.Mathlib.Nat.{zero-add, suc-add, mul-one, add-mul, mul-assoc, mul-comm, pow-succ', add-assoc, add-zero, mul-left-comm}
+use native.Mathlib.Nat.{zero-add, suc-add, mul-one, add-mul, mul-assoc, pow-succ', add-zero, mul-left-comm}
 use native.Mathlib.Omega.{arith}
 use Prim.Native.Nat.{ℕ, zero, suc, _+_, _-_, _*_, _/_, _%_, _^_, _≤_, _<_}
 use Rattle.std.proofs.shelf.Bits.{div-mul-add, mod-mul-add}
+use Rattle.std.proofs.shelf.Lists.{length-drop}
+use Rattle.uniform.specs.Bits.{Bits}
 use Rattle.uniform.specs.Draws.{number}
-
--- a row of numbers 0 and 1
-unfoldable pub Bits : List ℕ → Type 0
-Bits xs = (i : ℕ) → i < length xs → getD xs i 0 < 2
 
 pub bits-tail : (x : ℕ) (xs : List ℕ) → Bits (x ∷ xs) → Bits xs
 unfolding Bits
@@ -58,21 +56,14 @@ number-below (suc k) (x ∷ bs) h b = go x (unfold Bits in b 0 (omega arith)) (n
 
 -- the first a of a + b bits, and the others
 module _ (a b : ℕ) (bs : List ℕ) (long : a + b ≤ length bs) (are : Bits bs) where
+  others : b ≤ length (drop a bs)
+  others = omega (arith, length-drop a bs)
+
   both : number (a + b) 0 bs ≡ number a 0 bs * 2 ^ b + number b 0 (drop a bs)
-  both = number-parts a b 0 bs (omega arith) ∙ number-behind b (number a 0 bs) (drop a bs) (left a bs long)
-    where
-      left : (a : ℕ) (bs : List ℕ) → a + b ≤ length bs → b ≤ length (drop a bs)
-      left zero bs h = omega arith
-      left (suc a) [] h = absurd (omega arith)
-      left (suc a) (x ∷ bs) h = left a bs (omega arith)
+  both = number-parts a b 0 bs (omega arith) ∙ number-behind b (number a 0 bs) (drop a bs) others
 
   small : number b 0 (drop a bs) < 2 ^ b
-  small = number-below b (drop a bs) (left a bs long) (bits-drop a bs are)
-    where
-      left : (a : ℕ) (bs : List ℕ) → a + b ≤ length bs → b ≤ length (drop a bs)
-      left zero bs h = omega arith
-      left (suc a) [] h = absurd (omega arith)
-      left (suc a) (x ∷ bs) h = left a bs (omega arith)
+  small = number-below b (drop a bs) others (bits-drop a bs are)
 
   pub first-part : number a 0 bs ≡ number (a + b) 0 bs / 2 ^ b
   first-part = sym (ap (λ z. z / 2 ^ b) both ∙ div-mul-add (number a 0 bs) (2 ^ b) (number b 0 (drop a bs)) small)

@@ -1,17 +1,15 @@
 -- A draw from a place on: the turns of the loop, and its answers. Assumes nothing.
-use lib.Dec.{ltb}
 use lib.ListN.{length, drop, length-append}
-use mathlib.Core.Bool.{cond}
 use mathlib.Core.List.{List}
 use mathlib.Core.Logic.{_⊎_, inl, inr}
 use mathlib.Core.Path.{_≡_, refl, sym, ap, ap₂, _∙_}
 use native.Mathlib.Omega.{arith}
-use Prim.Native.Nat.{ℕ, zero, suc, _+_, _-_, _*_, _^_, _≤_, _<_}
+use Prim.Native.Nat.{ℕ, zero, suc, _+_, _-_, _^_, _≤_, _<_}
 use Rattle.std.proofs.shelf.Lists.{length-drop, drop-drop, drop-at}
 use Rattle.std.proofs.shelf.Tests.{lt-ltb, le-ltb, cases-lt}
 use Rattle.std.specs.declared.option.Option.the-variants.{Some, None}
 use Rattle.std.specs.declared.option.Option.{Option}
-use Rattle.uniform.proofs.Draws.{draw-short, draw-got, draw-again, draw-below, Read, draw-reads}
+use Rattle.uniform.proofs.Draws.{draw-short, draw-got, draw-again, draw-below, draw-reads, wide}
 use Rattle.uniform.specs.Draws.{width, number, Drawn, got, out, draw, placed, drawn-at}
 
 -- a turn of the loop reads v from w bits at a place
@@ -32,12 +30,7 @@ module _ (n w place v : ℕ) (all : List ℕ) (is-w : w ≡ width n) (is-v : v �
 
   -- a number that is thrown away has bits
   pub turn-reads : 0 < n → n ≤ v → 0 < w
-  unfolding number
-  turn-reads p h = go (cases-lt 0 w)
-    where
-      go : (0 < w) ⊎ (w ≤ 0) → 0 < w
-      go (inl l) = l
-      go (inr l) = let z : w ≡ 0 = omega arith in let y : v ≡ 0 = is-v ∙ ap (λ j. number j 0 (drop place all)) z in absurd (omega arith)
+  turn-reads p h = omega (arith, wide n (drop place all) p long (omega (arith, value)))
 
   -- else the draw goes on behind it, in a step less
   pub turn-again : (f : ℕ) (answer : Drawn) → draw f n (drop place all) ≡ answer → 0 < n → length all - place < f → n ≤ v

@@ -11,7 +11,7 @@ use Rattle.std.proofs.shelf.Lists.{getD-drop, length-drop}
 use Rattle.std.proofs.shelf.Tests.{cases-lt}
 use Rattle.uniform.proofs.Bits.{bits-are, length-bits, drop-bits, number-byte}
 use Rattle.uniform.proofs.Numbers.{number-more, number-parts, first-part, last-part}
-use Rattle.uniform.specs.Bits.{byte-bits, bits}
+use Rattle.uniform.specs.Bits.{bits}
 use Rattle.uniform.specs.Draws.{number}
 
 -- three bytes side by side

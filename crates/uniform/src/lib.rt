@@ -4,6 +4,7 @@
 ghost use lib.ListN.{length, getD, drop};
 ghost use mathlib.Core.Path.{_≡_};
 ghost use Prim.Native.Nat.{_+_, _-_, _*_, _^_, _<_, _≤_};
+ghost use Rattle.std.specs.Options.{Cases as BySome};
 ghost use Rattle.uniform.specs.Bits.{bits};
 ghost use Rattle.uniform.specs.Draws.{width, number, drawn-at};
 
@@ -12,7 +13,8 @@ const TOO_LONG: usize = 1 << 61;
 
 // A number below n from the bits from a place on, with the place of the next bit; or none where the bits have run out.
 pub fn draw_below(bytes: &[u8], from: usize, n: u16) -> Option<(u16, usize)>
-    ensures { λ r. ⌜ r ≡ drawn-at (bits (now (bytes .entry))) from n ⌝ }
+    ensures is { λ r. ⌜ r ≡ drawn-at (bits (now (bytes .entry))) from n ⌝ }
+    ensures below { λ r. ⌜ BySome r (Unit {0}) (λ a. a .0 < n) ⌝ }
 {
     if n == 0 || bytes.len() >= TOO_LONG {
         return None;

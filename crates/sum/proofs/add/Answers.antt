@@ -1,10 +1,8 @@
-use mathlib.Core.List.{List}
 use mathlib.Core.Path.{_≡_, _∙_}
 use native.Mathlib.Omega.{arith}
-use Prim.Native.Nat.{ℕ}
 use Rattle.sum.proofs.add.Needs as need
 use Rattle.sum.proofs.InPlace.{none-added, next-added, all-added}
-use Rattle.sum.proofs.Sums.{one-more}
+use Rattle.sum.proofs.Sums.{one-more-holds}
 use Rattle.sum.specs.Sums.{xor-bytes}
 
 pub loop-i-holds : need.loop-i-holds
@@ -17,4 +15,4 @@ pub returns : need.returns
 returns c =
     let e : c .loop-i .sum ≡ xor-bytes (c .args .sum .now) (c .args .row .now) =
     c .loop-i .inv ∙ all-added (c .args .sum .now) (c .args .row .now) (c .loop-i .i) (omega arith) in
-    record { after = e; more = one-more (c .args .sum .now) (c .args .row .now) (c .loop-i .sum) e }
+    record { after = e; more = one-more-holds (c .args .sum .now) (c .args .row .now) (c .loop-i .sum) e }

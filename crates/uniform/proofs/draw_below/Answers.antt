@@ -1,8 +1,8 @@
 use lib.ListN.{length, drop}
 use mathlib.Core.Logic.{⊎-elim}
-use mathlib.Core.Path.{_≡_, refl, sym, ap, _∙_}
+use mathlib.Core.Path.{refl, sym, ap, _∙_}
 use native.Mathlib.Omega.{arith}
-use Prim.Native.Nat.{suc, _+_, _-_, _*_, _<_, _≤_}
+use Prim.Native.Nat.{suc, _+_, _-_}
 use Rattle.std.proofs.shelf.Lists.{length-drop}
 use Rattle.uniform.proofs.Bits.{length-bits}
 use Rattle.uniform.proofs.draw_below.Needs as need
@@ -16,9 +16,10 @@ returns-then-n-eq0 c =
     let all = bits (c .args .bytes .now) in
     let from = c .args .from in
     let n = c .args .n in
-    ⊎-elim
+    let is = ⊎-elim
     (λ e. answers-out all from n (ap (λ j. draw (suc (length (drop from all))) j (drop from all)) e ∙ draw-none (suc (length (drop from all))) (drop from all)))
-    (λ h. answers-long all from n (omega (arith, h .1, length-bits (c .args .bytes .now)))) (c .then-n-eq0 .either)
+    (λ h. answers-long all from n (omega (arith, h .1, length-bits (c .args .bytes .now)))) (c .then-n-eq0 .either) in
+    record { is = is; below = tt }
 
 pub loop-value-holds : need.loop-value-holds
 loop-value-holds c =
@@ -32,10 +33,11 @@ returns-then-value-n c =
     let i = c .loop-value .inv in
     let place = c .loop-value .place in
     let w = c .bit-width-w .result in
-    answers-got all (c .args .from) (c .args .n) (c .read-value .result) (place + w) (omega arith)
+    let is = answers-got all (c .args .from) (c .args .n) (c .read-value .result) (place + w) (omega arith)
     (sym (i .2 .2)
     ∙ turn-got (c .args .n) w place (c .read-value .result) all (c .bit-width-w .ensures .is) (c .read-value .ensures) (omega arith) (i .2 .0) (omega arith) (omega arith))
-    (omega arith) (omega arith)
+    (omega arith) (omega arith) in
+    record { is = is; below = omega arith }
 
 pub loop-value-less : need.loop-value-less
 loop-value-less c =
@@ -61,5 +63,6 @@ returns c =
     let all = bits (c .args .bytes .now) in
     let n = length-bits (c .args .bytes .now) in
     let i = c .loop-value .inv in
-    answers-out all (c .args .from) (c .args .n)
-    (sym (i .2 .2) ∙ turn-out (i .2 .0) (c .args .n) (c .bit-width-w .result) (c .loop-value .place) all (c .bit-width-w .ensures .is) (omega arith))
+    let is = answers-out all (c .args .from) (c .args .n)
+    (sym (i .2 .2) ∙ turn-out (i .2 .0) (c .args .n) (c .bit-width-w .result) (c .loop-value .place) all (c .bit-width-w .ensures .is) (omega arith)) in
+    record { is = is; below = tt }

@@ -3,7 +3,6 @@ use mathlib.Core.Path.{_≡_, refl, sym, ap, _∙_}
 use mathlib.Core.List.{List, _++_}
 use Prim.Native.Nat.{ℕ, _-_, _^_, _<_, min}
 use lib.ListN.{length, take, drop}
-use Rattle.std.proofs.shelf.Lists.{length-take}
 use Rattle.order.specs.Drawings.{Drawing, drawn-order, outcome, left-in}
 use Rattle.ceremony.proofs.Fronts.{left-front, drawn-front}
 use Rattle.ceremony.proofs.opening.draw_front.Needs as need
@@ -21,5 +20,5 @@ returns c =
       after =
           ap (λ (x : List ℕ). x ++ drop (n - 0) order) (c .draw-order .ensures .after ∙ ap (λ (d : Drawing). left-in d (take (n - 0) order)) e)
           ∙ (ap (λ (j : ℕ). left-in (drawn-order n (take len bits) 0) (take j order) ++ drop j order) z
-          ∙ left-front n (take len bits) order (c .pre .places) (omega (arith, length-take len bits)));
+          ∙ left-front n (take len bits) order (c .pre .places));
     }

@@ -10,7 +10,8 @@ use Rattle.order.specs.Drawings.{drawn-order}
 use Rattle.protocol.specs.Layout.{name-count}
 use Rattle.protocol.specs.Check.{drawing-of}
 use Rattle.protocol.specs.Protocol.{ordered}
-use Rattle.protocol.proofs.Drawn.{drawn-length, drawn-is}
+use Rattle.order.proofs.Slices.{drawn-length}
+use Rattle.protocol.proofs.Drawn.{drawn-is}
 use Rattle.protocol.proofs.orders.draw.Needs as need
 
 pub returns-in-Drawn : need.returns-in-Drawn

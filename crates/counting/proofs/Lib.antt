@@ -1,0 +1,17 @@
+pub mod Totals
+pub mod Rows
+pub mod Bytes
+pub mod Parties
+pub mod Fairness
+pub mod Uniform
+pub mod Numbers
+pub mod Seldom
+pub mod FewHeads
+pub mod Places
+pub mod Arrangements
+pub mod Renamed
+pub mod Draws
+pub mod PlacesDrawn
+pub mod Enough
+pub mod Shares
+pub mod Table
