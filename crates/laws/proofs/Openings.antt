@@ -28,7 +28,7 @@ use Rattle.laws.specs.Sound.{In-opening, Closed}
 use Rattle.laws.proofs.Sealings.{still-given}
 
 -- a row added to bytes is added to each front of them
-take-xor : (n : ℕ) (a b : List ℕ) → take n (xor-bytes a b) ≡ xor-bytes (take n a) b
+pub take-xor : (n : ℕ) (a b : List ℕ) → take n (xor-bytes a b) ≡ xor-bytes (take n a) b
 unfolding xor-bytes
 take-xor zero [] b = refl
 take-xor zero (x ∷ a) b = refl

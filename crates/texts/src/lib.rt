@@ -8,6 +8,7 @@ ghost use Rattle.std.specs.Options.{mapped};
 ghost use Rattle.std.specs.Results.{isOk};
 ghost use Rattle.std.specs.Vec.{made};
 ghost use Rattle.std.specs.Written.{decimal};
+ghost use Rattle.texts.specs.Laws.{Order-told, Summary-told};
 ghost use Rattle.texts.specs.Lines.{refusal-line, left-out-line, summary-lines, order-words, count-words, numbers};
 use refusals::Refusal;
 use std::alloc::AllocError;
@@ -93,4 +94,12 @@ pub fn summary_text(
     add_order(&mut text, order)?;
     text.push_str("\n")?;
     Ok(text)
+}
+
+// The printed order tells the order: two summaries with the same counts that print alike have the same order, or none.
+pub fn summary_told_stands() -> u8
+    ensures order { λ _. ⌜ Order-told ⌝ }
+    ensures summary { λ _. ⌜ Summary-told ⌝ }
+{
+    0
 }

@@ -1,0 +1,6 @@
+pub mod Chains
+pub mod Entries
+pub mod Closing
+pub mod Sealing
+pub mod Opening
+pub mod Whole
