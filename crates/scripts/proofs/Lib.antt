@@ -4,3 +4,6 @@ pub mod Closing
 pub mod Sealing
 pub mod Opening
 pub mod Whole
+pub mod Printed
+pub mod Replaced
+pub mod Fair

@@ -30,16 +30,16 @@ module _ (kind : ℕ) (x rest : List ℕ) where
   rest-again = drop-at (step-bytes (kind, x)) rest (3 + length x) (omega arith)
 
 -- whatever bound is enough for the bytes
-again : (ss : List (ℕ × List ℕ)) (n : ℕ) → Short ss → length (file-of ss) ≤ n → (steps-of n (file-of ss) ≡ ss) × (cut-in n (file-of ss) ≡ false)
+pub again : (ss : List (ℕ × List ℕ)) (n : ℕ) → length (file-of ss) ≤ n → (steps-of n (file-of ss) ≡ ss) × (cut-in n (file-of ss) ≡ false)
 unfolding steps-of cut-in
-again [] zero h l = (refl, refl)
-again [] (suc n) h l = (refl, refl)
-again ((kind, x) ∷ ss) zero h l = absurd (omega arith)
-again ((kind, x) ∷ ss) (suc n) h l =
+again [] zero l = (refl, refl)
+again [] (suc n) l = (refl, refl)
+again ((kind, x) ∷ ss) zero l = absurd (omega arith)
+again ((kind, x) ∷ ss) (suc n) l =
     let f = first-again kind x (file-of ss) in
     let r = rest-again kind x (file-of ss) in
-    let e = again ss n (h .1) (omega (arith, length-append x (file-of ss))) in
+    let e = again ss n (omega (arith, length-append x (file-of ss))) in
     (simp (f, r, e .0), simp (f, r, e .1))
 
 pub read-again : Read-again
-read-again ss h = again ss (length (file-of ss)) h (omega arith)
+read-again ss h = again ss (length (file-of ss)) (omega arith)

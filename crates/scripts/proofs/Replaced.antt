@@ -1,0 +1,71 @@
+-- A script in which one party puts in other bits. Assumes nothing.
+use mathlib.Core.Path.{_≡_, refl, sym, ap, subst, _∙_}
+use mathlib.Core.List.{List, [], _∷_, _++_, map}
+use mathlib.Core.Logic.{⊎-elim}
+use Prim.Native.Nat.{ℕ, _+_, _≤_, _<_}
+use native.Mathlib.Omega.{arith}
+use lib.ListN.{length, getD, set, take, drop}
+use Rattle.std.proofs.shelf.Lists.{length-set, length-map, length-append, length-take-le, getD-set-same, getD-set-other, getD-map, drop-at, ext-getD}
+use Rattle.std.proofs.shelf.Tests.{cases-eq, cases-order}
+use Rattle.scripts.specs.Script.{Script, Right, row-of, rows-of}
+use Rattle.scripts.specs.Fair.{with-bits}
+
+module _ (s : Script) (r : Right s) (j : ℕ) (row : List ℕ) (l : j < length (s .comes)) (m : length row ≡ s .len) where
+  -- the party, and its opening with the other bits
+  abbrev party : ℕ
+  party = getD (s .comes) j 0
+
+  abbrev opening : List ℕ
+  opening = take 32 (getD (s .openings) party []) ++ row
+
+  salt-long : length (take 32 (getD (s .openings) party [])) ≡ 32
+  salt-long = let h = r .each-opening party (r .each-comes j l) in length-take-le 32 (getD (s .openings) party []) (omega (arith, h))
+
+  pub still-right : Right (with-bits s party row)
+  still-right =
+      let n = length-set (s .openings) party opening in
+      record {
+        some-names = r .some-names;
+        few-names = r .few-names;
+        each-name = r .each-name;
+        sorted = r .sorted;
+        same-names = r .same-names;
+        enough-bits = r .enough-bits;
+        few-bits = r .few-bits;
+        some-parties = omega (arith, n, r .some-parties);
+        few-parties = omega (arith, n, r .few-parties);
+        each-opening =
+          λ k h.
+            ⊎-elim (λ (e : k ≡ party).
+              ap (λ (i : ℕ). length (getD (set (s .openings) party opening) i [])) e
+              ∙ (ap length (getD-set-same (s .openings) party opening [] (r .each-comes j l)) ∙ (length-append (take 32 (getD (s .openings) party [])) row ∙ (let z = salt-long in omega (arith, z, m)))))
+            (λ (e : k ≡ party → ⊥). ap length (getD-set-other (s .openings) party k opening [] e) ∙ r .each-opening k (omega (arith, n, h)))
+            (cases-eq k party);
+        some-comes = r .some-comes;
+        each-comes = λ i h. let c = r .each-comes i h in omega (arith, n, c);
+        comes-once = r .comes-once;
+      }
+
+  -- of the rows that are added up, only that party's is another
+  pub rows-with : rows-of (with-bits s party row) ≡ set (rows-of s) j row
+  rows-with =
+      ext-getD [] (rows-of (with-bits s party row)) (set (rows-of s) j row)
+      (length-map (s .comes) (row-of (set (s .openings) party opening)) ∙ sym (length-set (rows-of s) j row ∙ length-map (s .comes) (row-of (s .openings))))
+      (λ i h. each i (omega (arith, h, length-map (s .comes) (row-of (set (s .openings) party opening)))))
+    where
+    each : (i : ℕ) → i < length (s .comes) → getD (rows-of (with-bits s party row)) i [] ≡ getD (set (rows-of s) j row) i []
+    each i h =
+        getD-map (row-of (set (s .openings) party opening)) (s .comes) i 0 [] h
+        ∙ ⊎-elim (λ (e : i ≡ j).
+          ap (λ (k : ℕ). row-of (set (s .openings) party opening) (getD (s .comes) k 0)) e
+          ∙ (ap (drop 32) (getD-set-same (s .openings) party opening [] (r .each-comes j l))
+          ∙ (drop-at (take 32 (getD (s .openings) party [])) row 32 salt-long
+          ∙ (sym (getD-set-same (rows-of s) j row [] (let n = length-map (s .comes) (row-of (s .openings)) in omega (arith, n, l))) ∙ ap (λ (k : ℕ). getD (set (rows-of s) j row) k []) (sym e)))))
+        (λ (e : i ≡ j → ⊥).
+          ap (drop 32) (getD-set-other (s .openings) party (getD (s .comes) i 0) opening [] (apart e))
+          ∙ (sym (getD-map (row-of (s .openings)) (s .comes) i 0 [] h) ∙ sym (getD-set-other (rows-of s) j i row [] e)))
+        (cases-eq i j)
+      where
+      apart : (i ≡ j → ⊥) → getD (s .comes) i 0 ≡ party → ⊥
+      apart e q =
+          ⊎-elim (λ (z : i ≡ j). e z) (⊎-elim (λ (z : i < j). r .comes-once i j z l q) (λ (z : j < i). r .comes-once j i z h (sym q))) (cases-order i j)
