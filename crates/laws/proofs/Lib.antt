@@ -8,3 +8,4 @@ pub mod Endings
 pub mod Runs
 pub mod Bytes
 pub mod Protocols
+pub mod Repeats

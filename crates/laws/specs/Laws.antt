@@ -1,5 +1,6 @@
 -- The laws of every run. Each is a statement whose proof a function's contract demands. Assumes nothing.
 use mathlib.Core.Path.{_≡_}
+use mathlib.Core.Bool.{true}
 use mathlib.Core.List.{List}
 use Prim.Native.Nat.{ℕ, _<_}
 use lib.ListN.{length, getD, take}
@@ -8,13 +9,15 @@ use Rattle.refusals.specs.declared.Refusal.{Refusal}
 use Rattle.ceremony.specs.Model.{Ended}
 use Rattle.ceremony.specs.Reports.{order-of, summary-of, protocol-left}
 use Rattle.protocol.specs.Draws.{Bytes, Of-draw, acceptance}
-use Rattle.protocol.specs.Texts.{verdict-text}
+use Rattle.protocol.specs.Check.{verdict}
+use Rattle.protocol.specs.Texts.{verdict-text, is-accepted}
 use Rattle.ceremony.specs.Draws.{State, ended, step}
 use Rattle.records.specs.Records.{opened-rows}
 use Rattle.sum.specs.Sums.{sum-of}
 use Rattle.texts.specs.Lines.{order-words}
 use Rattle.steps.specs.File.{file-steps}
-use Rattle.runs.specs.Reports.{fresh, run-of}
+use Rattle.runs.specs.Reports.{fresh, run-of, report-of}
+use Rattle.runs.specs.declared.report.Ending.the-variants.{Finished}
 use Rattle.laws.specs.Taken.{taken-kinds}
 use Rattle.laws.specs.Sound.{Sound-state}
 
@@ -51,3 +54,9 @@ Independence =
 abbrev pub Run-protocols : Type 0
 Run-protocols =
     (file : List ℕ) (e : Ended) → Bytes file → run-of file ≡ ended e → Of-draw (protocol-left e) × (verdict-text (acceptance (protocol-left e)) ≡ summary-of e)
+
+-- REPEATS: whatever file of bytes ends with a draw, the protocol that is written is accepted, and repeating it prints what the draw printed
+abbrev pub Repeats : Type 0
+Repeats =
+    (file : List ℕ) → Bytes file → report-of file .ending ≡ Finished →
+    (is-accepted (verdict (report-of file .protocol)) ≡ true) × (verdict-text (verdict (report-of file .protocol)) ≡ report-of file .summary)

@@ -1,6 +1,6 @@
 // The laws of whole runs, over the definitions that the contracts of `runs` and `ceremony` cite. No program calls these
 // functions: each is there so that its contract demands the proof of a law.
-ghost use Rattle.laws.specs.Laws.{Refused-unchanged, Sealed-first, Runs-sound, Sum-of-openings, Independence, Run-protocols};
+ghost use Rattle.laws.specs.Laws.{Refused-unchanged, Sealed-first, Runs-sound, Sum-of-openings, Independence, Run-protocols, Repeats};
 
 // A refused step changes nothing.
 pub fn refused_unchanged_stands() -> u8
@@ -40,6 +40,13 @@ pub fn independence_stands() -> u8
 // The protocol of every run that ends is the protocol of a draw.
 pub fn run_protocols_stands() -> u8
     ensures { λ _. ⌜ Run-protocols ⌝ }
+{
+    0
+}
+
+// The protocol that a draw writes is accepted, and repeats what the draw printed.
+pub fn repeats_stands() -> u8
+    ensures { λ _. ⌜ Repeats ⌝ }
 {
     0
 }

@@ -1,17 +1,12 @@
 -- What stands where an order was drawn. Assumes nothing.
-use mathlib.Core.Path.{_≡_, refl, sym, ap, _∙_}
-use mathlib.Core.Bool.{Bool, true, false, cond}
-use mathlib.Core.List.{List, [], _∷_, _++_}
-use Prim.Native.Nat.{ℕ, _+_, _^_, _≤_}
+use mathlib.Core.Path.{_≡_, refl, ap, _∙_}
+use mathlib.Core.List.{List, _++_}
+use Prim.Native.Nat.{ℕ, _+_}
 use native.Mathlib.Omega.{arith}
-use lib.Dec.{ltb}
 use lib.ListN.{length, drop}
-use Rattle.std.specs.declared.option.Option.{Option}
-use Rattle.std.specs.declared.option.Option.the-variants.{Some, None}
+use Rattle.std.specs.declared.option.Option.the-variants.{Some}
 use Rattle.std.proofs.shelf.Lists.{append-nil, drop-all}
-use Rattle.uniform.specs.Bits.{bits}
-use Rattle.order.specs.declared.Outcome.{Outcome}
-use Rattle.order.specs.declared.Outcome.the-variants.{Drawn, RunOut}
+use Rattle.order.specs.declared.Outcome.the-variants.{Drawn}
 use Rattle.order.specs.Drawings.{Drawing, drawn, run-out, outcome, left-in}
 use Rattle.protocol.specs.Protocol.{ordered}
 

@@ -1,8 +1,8 @@
 -- A fault at one place, by what stands there. Assumes nothing.
-use mathlib.Core.Path.{_≡_, refl, sym, ap, _∙_}
-use mathlib.Core.Bool.{Bool, true, false, cond}
+use mathlib.Core.Path.{_≡_, sym, ap, _∙_}
+use mathlib.Core.Bool.{Bool, cond}
 use mathlib.Core.List.{List}
-use Prim.Native.Nat.{ℕ, suc, _+_, _-_, _<_, _≤_}
+use Prim.Native.Nat.{ℕ, _+_, _-_, _<_, _≤_}
 use native.Mathlib.Numerals.{add-one}
 use lib.Dec.{ltb}
 use lib.ListN.{getD, take, drop}
@@ -11,7 +11,7 @@ use Rattle.std.specs.declared.option.Option.the-variants.{Some, None}
 use Rattle.std.proofs.shelf.Tests.{cond-true, cond-false, lt-ltb, le-ltb}
 use Rattle.sha256.specs.Sha256.{sha256}
 use Rattle.protocol.specs.Check.{fault-in-name, name-before, name-fault, opened-fault, hash-of, wrong-opening, party-fault}
-use Rattle.protocol.specs.Layout.{name-at, name-in, length-at, bits-length, party-at, party-in, party-of}
+use Rattle.protocol.specs.Layout.{name-at, name-in, length-at, bits-length, party-at, party-in}
 
 module _ (bytes : List ℕ) where
   pub name-fault-is : (k at : ℕ) (before : List ℕ) (o : Option ℕ) → at ≡ name-at bytes k → before ≡ name-before bytes k → o ≡ fault-in-name bytes at before → o ≡ name-fault bytes k

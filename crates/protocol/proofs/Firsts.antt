@@ -1,6 +1,6 @@
 -- The first fault of several. Assumes nothing.
 use mathlib.Core.Path.{_≡_, refl, sym, ap, _∙_}
-use Prim.Native.Nat.{ℕ, zero, suc, _+_, _-_, _<_, _≤_}
+use Prim.Native.Nat.{ℕ, zero, suc, _+_, _-_, _<_}
 use native.Mathlib.Nat.{zero-add, suc-add}
 use mathlib.Core.Bool.{true, false}
 use native.Mathlib.Omega.{arith}

@@ -5,3 +5,13 @@ pub mod Faults
 pub mod Writes
 pub mod Drawn
 pub mod Verdicts
+pub mod Tails
+pub mod Names
+pub mod Parties
+pub mod Passes
+pub mod OrderNumbers
+pub mod AcceptsDrawn
+pub mod Fronts
+pub mod Places
+pub mod Rewritten
+pub mod AcceptsOnlyDrawn

@@ -1,6 +1,6 @@
 -- The openings of the parties so far. Assumes nothing.
 use mathlib.Core.Path.{_≡_, refl, sym, ap, _∙_}
-use mathlib.Core.Bool.{Bool, true, false, cond}
+use mathlib.Core.Bool.{Bool, cond}
 use mathlib.Core.Logic.{⊎-elim}
 use mir.Val.{boolByte}
 use native.Mathlib.Nat.{add-zero}

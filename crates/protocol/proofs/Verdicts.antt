@@ -1,12 +1,12 @@
 -- The verdict by what the passes found. Assumes nothing.
-use mathlib.Core.Path.{_≡_, refl, sym, ap, _∙_}
+use mathlib.Core.Path.{_≡_, ap, _∙_}
 use mathlib.Core.List.{List}
 use Prim.Native.Nat.{ℕ}
 use Rattle.std.specs.declared.option.Option.{Option}
 use Rattle.std.specs.declared.option.Option.the-variants.{Some, None}
 use Rattle.refusals.specs.declared.Refusal.{Refusal}
 use Rattle.refusals.specs.declared.Refusal.the-variants.{WrongOrder}
-use Rattle.protocol.specs.Check.{Verdict, accepted, refused, early-fault, drawing-of, order-fault, opened-count, told, judged, judged-order, verdict}
+use Rattle.protocol.specs.Check.{accepted, refused, early-fault, drawing-of, order-fault, opened-count, told, judged, judged-order, verdict}
 use Rattle.protocol.specs.Layout.{name-count, party-count}
 use Rattle.protocol.specs.Protocol.{ordered}
 

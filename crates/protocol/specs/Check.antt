@@ -1,7 +1,7 @@
 -- How a protocol that anyone may have written is checked: in four passes, so that refusals are looked for in the order of their numbers. Assumes nothing.
-use mathlib.Core.Bool.{Bool, true, false, cond, not, _||_}
+use mathlib.Core.Bool.{Bool, false, cond, not, _||_}
 use mathlib.Core.List.{List, []}
-use Prim.Native.Nat.{ℕ, zero, suc, _+_, _-_, _*_}
+use Prim.Native.Nat.{ℕ, zero, suc, _+_, _-_}
 use lib.Dec.{eqb, ltb}
 use lib.ListN.{length, take, drop, getD}
 use Rattle.std.specs.Of.Vec.{vec-items}
@@ -15,7 +15,7 @@ use Rattle.refusals.specs.declared.Refusal.the-variants.{ProtocolLength, OutOfR
 use Rattle.sha256.specs.Sha256.{sha256}
 use Rattle.entries.specs.Rows.{row-order, longest-name, most-names}
 use Rattle.seals.specs.Seal.{seal-of}
-use Rattle.order.specs.Drawings.{Drawing, drawn, run-out}
+use Rattle.order.specs.Drawings.{Drawing}
 use Rattle.protocol.specs.Protocol.{Party, openings, drawing-from, ordered}
 use Rattle.protocol.specs.Layout.{name-count, name-at, name-in, name-of, length-at, bits-length, party-count, party-at, party-of, parties-of, order-at, numbers-at, size}
 use Rattle.protocol.specs.declared.Checked.{Checked}

@@ -5,14 +5,14 @@ use Prim.Native.Nat.{ℕ, _+_, _<_, _≤_}
 use lib.ListN.{length, getD}
 use Rattle.std.specs.Options.{Cases}
 use Rattle.std.specs.declared.option.Option.{Option}
-use Rattle.std.specs.declared.option.Option.the-variants.{Some, None}
+use Rattle.std.specs.declared.option.Option.the-variants.{None}
 use Rattle.sha256.specs.Sha256.{sha256}
 use Rattle.entries.specs.Rows.{packed-rows, longest-name, most-names}
 use Rattle.seals.specs.Seal.{seal-of}
 use Rattle.seals.specs.Steps.{most-parties}
 use Rattle.listing.specs.Listing.{Sorted}
 use Rattle.protocol.specs.Protocol.{Party, Protocol, written, openings, drawing-from, ordered}
-use Rattle.protocol.specs.Check.{Verdict, accepted, verdict}
+use Rattle.protocol.specs.Check.{Verdict, accepted}
 
 -- a row of bytes: numbers below 256
 abbrev pub Bytes : List ℕ → Type 0
@@ -58,12 +58,12 @@ pub record Of-draw (d : Protocol) : Type 0 where
 abbrev pub acceptance : Protocol → Verdict
 acceptance d = accepted (length (d .names)) (length (d .parties)) (length (openings (d .parties))) (d .order)
 
--- the protocol of every draw is accepted
-abbrev pub Accepts-drawn : Type 0
-Accepts-drawn = (d : Protocol) → Of-draw d → verdict (written d) ≡ acceptance d
+-- ACCEPTS DRAWN: bytes that are the protocol of a draw are accepted, and told as the draw is
+abbrev pub Accepts-drawn : List ℕ → Verdict → Type 0
+Accepts-drawn bytes v = (d : Protocol) → Of-draw d → written d ≡ bytes → v ≡ acceptance d
 
--- and whatever is accepted is the protocol of a draw
-abbrev pub Accepts-only-drawn : Type 0
-Accepts-only-drawn =
-    (bytes : List ℕ) (names parties opened : ℕ) (order : Option (List ℕ)) → Bytes bytes → verdict bytes ≡ accepted names parties opened order →
-    (d : Protocol) × Of-draw d × (written d ≡ bytes) × (acceptance d ≡ accepted names parties opened order)
+-- ACCEPTS ONLY DRAWN: bytes that are accepted are the protocol of a draw, and told as that draw is
+abbrev pub Accepts-only-drawn : List ℕ → Verdict → Type 0
+Accepts-only-drawn bytes v =
+    (names parties opened : ℕ) (order : Option (List ℕ)) → v ≡ accepted names parties opened order →
+    (d : Protocol) × Of-draw d × (written d ≡ bytes) × (v ≡ acceptance d)

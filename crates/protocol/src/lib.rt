@@ -11,9 +11,10 @@ ghost use Rattle.std.specs.Options.{mapped};
 ghost use Rattle.std.specs.Vec.{made};
 ghost use Rattle.protocol.specs.Check.{checked, verdict, early-fault};
 ghost use Rattle.protocol.specs.Laid.{Laid-out};
+ghost use Rattle.protocol.specs.Draws.{Accepts-drawn, Accepts-only-drawn};
 ghost use Rattle.protocol.specs.Finished.{protocol-of};
 ghost use Rattle.protocol.specs.Protocol.{written};
-ghost use Rattle.protocol.specs.Texts.{verdict-text, is-accepted, refused-line};
+ghost use Rattle.protocol.specs.Texts.{verdict-text, is-accepted, refused-line, Repeats-drawn, Repeats-only-drawn};
 use layout::Layout;
 use order::Outcome;
 use refusals::Refusal;
@@ -42,7 +43,9 @@ pub enum Checked {
 // Checks a protocol in four passes: its shape, its ranges, its seals, its order. It takes memory for what is in the
 // protocol only, whatever its counts claim.
 pub fn check(heap: Global, protocol: &[u8]) -> Result<Checked, AllocError>
-    ensures { λ r. ⌜ made r (λ c. checked c ≡ verdict (now (protocol .entry))) ⌝ }
+    ensures is { λ r. ⌜ made r (λ c. checked c ≡ verdict (now (protocol .entry))) ⌝ }
+    ensures drawn { λ r. ⌜ made r (λ c. Accepts-drawn (now (protocol .entry)) (checked c)) ⌝ }
+    ensures only { λ r. ⌜ made r (λ c. Accepts-only-drawn (now (protocol .entry)) (checked c)) ⌝ }
 {
     let layout = Layout::of(protocol);
     if let Some(why) = early_fault(protocol, layout) {
@@ -106,7 +109,9 @@ pub fn write(
 // What the program that repeats a draw prints of a protocol: the two lines of the draw, or why the protocol is refused; and
 // whether it is accepted.
 pub fn repeat_text(heap: Global, protocol: &[u8]) -> Result<(String, bool), AllocError>
-    ensures { λ r. ⌜ made r (λ t. (string-bytes (t .0) ≡ verdict-text (verdict (now (protocol .entry)))) × (t .1 ≡ is-accepted (verdict (now (protocol .entry))))) ⌝ }
+    ensures is { λ r. ⌜ made r (λ t. (string-bytes (t .0) ≡ verdict-text (verdict (now (protocol .entry)))) × (t .1 ≡ is-accepted (verdict (now (protocol .entry))))) ⌝ }
+    ensures drawn { λ r. ⌜ made r (λ t. Repeats-drawn (now (protocol .entry)) (string-bytes (t .0)) (t .1)) ⌝ }
+    ensures only { λ r. ⌜ made r (λ t. Repeats-only-drawn (now (protocol .entry)) (string-bytes (t .0)) (t .1)) ⌝ }
 {
     match check(heap, protocol)? {
         Checked::Accepted {

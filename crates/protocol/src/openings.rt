@@ -1,8 +1,8 @@
 // The third pass: each opening gives its party's seal, and a party opened. And the sum of the opened parties' bits.
 ghost use mathlib.Core.Path.{_≡_};
-ghost use mathlib.Core.List.{List, map};
-ghost use Prim.Native.Nat.{_+_, _*_, _<_, _≤_, _^_};
-ghost use lib.ListN.{length, getD, drop};
+ghost use mathlib.Core.List.{map};
+ghost use Prim.Native.Nat.{_+_, _<_, _^_};
+ghost use lib.ListN.{length, drop};
 ghost use Rattle.protocol.specs.Check.{first-of, hash-of, wrong-opening, party-fault, opened-count, seal-fault};
 ghost use Rattle.protocol.specs.Laid.{Laid-out};
 ghost use Rattle.protocol.specs.Layout.{party-in, party-count, parties-of};

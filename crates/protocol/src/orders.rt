@@ -1,7 +1,7 @@
 // The fourth pass: the order is the one drawn from the sum of the opened parties' bits, and the word says whether there is
 // one.
 ghost use mathlib.Core.Path.{_≡_};
-ghost use mathlib.Core.List.{List, map};
+ghost use mathlib.Core.List.{map};
 ghost use Prim.Native.Nat.{_+_, _*_, _<_, _^_};
 ghost use lib.ListN.{length, drop};
 ghost use Rattle.protocol.specs.Check.{drawing-of, order-fault};

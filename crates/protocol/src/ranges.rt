@@ -1,13 +1,11 @@
 // The second pass: counts, lengths, names and the bytes that tell whether a party opened are in range, and names are
 // sorted. Each function answers with the place of the first that is not.
 ghost use mathlib.Core.Path.{_≡_};
-ghost use mathlib.Core.List.{List};
-ghost use Prim.Native.Nat.{_+_, _*_, _<_, _≤_, _^_};
-ghost use lib.ListN.{getD};
+ghost use Prim.Native.Nat.{_+_, _<_, _^_};
 ghost use Rattle.entries.specs.Rows.{row-order};
 ghost use Rattle.protocol.specs.Check.{first-of, fault-in-name, name-fault, opened-fault, range-fault};
 ghost use Rattle.protocol.specs.Laid.{Laid-out};
-ghost use Rattle.protocol.specs.Layout.{name-count, name-in, party-count};
+ghost use Rattle.protocol.specs.Layout.{name-in, party-count};
 ghost use Rattle.std.specs.Orderings.{isLt};
 use crate::bytes::byte_at;
 use crate::bytes::part;

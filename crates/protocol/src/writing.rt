@@ -1,6 +1,6 @@
 // The parts of a protocol, written from a finished draw's memory one after another.
 ghost use mathlib.Core.Path.{_≡_};
-ghost use mathlib.Core.List.{List, _∷_, _++_, map};
+ghost use mathlib.Core.List.{_++_, map};
 ghost use Prim.Native.Nat.{_<_};
 ghost use lib.ListN.{length, take};
 ghost use Rattle.entries.specs.Rows.{listed, packed, packed-rows};

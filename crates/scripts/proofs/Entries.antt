@@ -35,9 +35,9 @@ unfolding taken
 taken-few l [] = omega arith
 taken-few l (x ∷ xs) = go (entered (l .slots) (l .index) (l .count) x .answer) (taken-few (after-entry l x) xs)
   where
-  go : (r : Result ℕ Refusal) → length (taken (after-entry l x) xs) ≤ length xs → length (if-taken r x (taken (after-entry l x) xs)) ≤ suc (length xs)
-  go (Ok n) h = omega arith
-  go (Err w) h = omega arith
+    go : (r : Result ℕ Refusal) → length (taken (after-entry l x) xs) ≤ length xs → length (if-taken r x (taken (after-entry l x) xs)) ≤ suc (length xs)
+    go (Ok n) h = omega arith
+    go (Err w) h = omega arith
 
 all-taken : (h : Held) (l : Listing) (xs : List (List ℕ)) → length (taken l xs) ≡ length xs → Leads (listing (with-listing h l)) (map entry-of xs) (listing (with-listing h (after-entries l xs)))
 unfolding taken after-entries
@@ -46,18 +46,18 @@ all-taken h l (x ∷ xs) e =
     let f = taken-few (after-entry l x) xs in
     go (entered (l .slots) (l .index) (l .count) x .answer) refl (λ p. all-taken h (after-entry l x) xs p) f e
   where
-  go : (r : Result ℕ Refusal) → entered (l .slots) (l .index) (l .count) x .answer ≡ r
-      → (length (taken (after-entry l x) xs) ≡ length xs → Leads (listing (with-listing h (after-entry l x))) (map entry-of xs) (listing (with-listing h (after-entries (after-entry l x) xs))))
-      → length (taken (after-entry l x) xs) ≤ length xs
-      → length (if-taken r x (taken (after-entry l x) xs)) ≡ suc (length xs)
-      → Leads (listing (with-listing h l)) (entry-of x ∷ map entry-of xs) (listing (with-listing h (after-entries (after-entry l x) xs)))
-  go (Ok n) a ih f e =
-      more (listing (with-listing h l)) (listing (with-listing h (after-entry l x))) (listing (with-listing h (after-entries (after-entry l x) xs))) 1 x (map entry-of xs)
-      (ap (λ (c : ℕ). listing (record { held = with-list h (entered (l .slots) (l .index) (l .count) x .slots) (entered (l .slots) (l .index) (l .count) x .index); count = c }))
-       (ap (λ (r : Result ℕ Refusal). number-or r (l .count)) a ∙ sym (ap (λ (r : Result ℕ Refusal). counted r (l .count)) a)))
-      (ap (λ (r : Result ℕ Refusal). why (done r)) a)
-      (ih (omega arith))
-  go (Err w) a ih f e = absurd (omega arith)
+    go : (r : Result ℕ Refusal) → entered (l .slots) (l .index) (l .count) x .answer ≡ r
+        → (length (taken (after-entry l x) xs) ≡ length xs → Leads (listing (with-listing h (after-entry l x))) (map entry-of xs) (listing (with-listing h (after-entries (after-entry l x) xs))))
+        → length (taken (after-entry l x) xs) ≤ length xs
+        → length (if-taken r x (taken (after-entry l x) xs)) ≡ suc (length xs)
+        → Leads (listing (with-listing h l)) (entry-of x ∷ map entry-of xs) (listing (with-listing h (after-entries (after-entry l x) xs)))
+    go (Ok n) a ih f e =
+        more (listing (with-listing h l)) (listing (with-listing h (after-entry l x))) (listing (with-listing h (after-entries (after-entry l x) xs))) 1 x (map entry-of xs)
+        (ap (λ (c : ℕ). listing (record { held = with-list h (entered (l .slots) (l .index) (l .count) x .slots) (entered (l .slots) (l .index) (l .count) x .index); count = c }))
+        (ap (λ (r : Result ℕ Refusal). number-or r (l .count)) a ∙ sym (ap (λ (r : Result ℕ Refusal). counted r (l .count)) a)))
+        (ap (λ (r : Result ℕ Refusal). why (done r)) a)
+        (ih (omega arith))
+    go (Err w) a ih f e = absurd (omega arith)
 
 -- the entries are the names of the list in another order
 module _ (slots index : List ℕ) (ns xs : List (List ℕ)) (sorted : Sorted ns) (same : Shuffled ns xs)
@@ -72,4 +72,4 @@ module _ (slots index : List ℕ) (ns xs : List (List ℕ)) (sorted : Sorted ns)
   entries-lead h =
       all-taken h (no-entries slots index) xs
       (sym (length-shuffled (taken (no-entries slots index) xs) (names (after-entries (no-entries slots index) xs)) (list-holds slots index xs))
-       ∙ (ap length list-is ∙ sym (length-shuffled ns xs same)))
+      ∙ (ap length list-is ∙ sym (length-shuffled ns xs same)))

@@ -50,21 +50,21 @@ count-more before after len party b a s zero = simp (le-ltb party 0 (omega arith
 count-more before after len party b a s (suc n) =
     let ih = count-more before after len party b a s n in
     ⊎-elim (λ (e : n ≡ party).
-      let t : ltb party (suc n) ≡ true = lt-ltb party (suc n) (omega arith) in
-      let u : ltb party n ≡ false = le-ltb party n (omega arith) in
-      let v : has-opened after len n ≡ true = ap (has-opened after len) e ∙ a in
-      let w : has-opened before len n ≡ false = ap (has-opened before len) e ∙ b in
-      simp (t, v, w) (omega (arith, ih ∙ ap (λ (q : Bool). opened-count before len n + cond q 1 0) u)))
+    let t : ltb party (suc n) ≡ true = lt-ltb party (suc n) (omega arith) in
+    let u : ltb party n ≡ false = le-ltb party n (omega arith) in
+    let v : has-opened after len n ≡ true = ap (has-opened after len) e ∙ a in
+    let w : has-opened before len n ≡ false = ap (has-opened before len) e ∙ b in
+    simp (t, v, w) (omega (arith, ih ∙ ap (λ (q : Bool). opened-count before len n + cond q 1 0) u)))
     (λ (e : n ≡ party → ⊥).
-      let t : ltb party (suc n) ≡ ltb party n = same-test e in
-      simp (t, s n e .mark) (omega (arith, ih)))
+    let t : ltb party (suc n) ≡ ltb party n = same-test e in
+    simp (t, s n e .mark) (omega (arith, ih)))
     (cases-eq n party)
   where
-  same-test : (n ≡ party → ⊥) → ltb party (suc n) ≡ ltb party n
-  same-test e =
-      ⊎-elim (λ (q : party ≡ n). absurd (e (sym q)))
-      (⊎-elim (λ (h : party < n). lt-ltb party (suc n) (omega arith) ∙ sym (lt-ltb party n h)) (λ (h : n < party). le-ltb party (suc n) h ∙ sym (le-ltb party n (omega arith))))
-      (cases-order party n)
+    same-test : (n ≡ party → ⊥) → ltb party (suc n) ≡ ltb party n
+    same-test e =
+        ⊎-elim (λ (q : party ≡ n). absurd (e (sym q)))
+        (⊎-elim (λ (h : party < n). lt-ltb party (suc n) (omega arith) ∙ sym (lt-ltb party n h)) (λ (h : n < party). le-ltb party (suc n) h ∙ sym (le-ltb party n (omega arith))))
+        (cases-order party n)
 
 -- so far: these rows are added up, and the parties in the rest have not opened
 pub record So-far (ops done : List (List ℕ)) (rest : List ℕ) (s : Sealed) : Type 0 where
@@ -110,27 +110,29 @@ module _ (ops : List (List ℕ)) where
 
     pub next-opening : (step (opening s) 5 (k ∷ getD ops k []) .1 ≡ None) × (step (opening s) 5 (k ∷ getD ops k []) .0 ≡ opening (after s k)) × So-far ops (done ++ row-of ops k ∷ []) ks (after s k)
     next-opening =
-        let e = ap (stepped opening) taken in
-        (ap (λ (p : State × _). p .1) e, ap (λ (p : State × _). p .0) e,
-         record {
-           sound = subst Sound-state (ap (λ (p : State × _). p .0) e) (step-sound (opening s) 5 (k ∷ getD ops k []) (i .sound));
-           parties = i .parties;
-           seals =
-             λ j l.
-               ⊎-elim (λ (b : j ≡ k). ap (seal-in (opened (s .held .seals) (s .list .length) (s .parties) (s .list .hash) k (getD ops k []) .seals) (s .list .length)) b ∙ (kept .seal ∙ (ap (seal-in (s .held .seals) (s .list .length)) (sym b) ∙ i .seals j l)))
-               (λ (b : j ≡ k → ⊥). kept .others j b .seal ∙ i .seals j l) (cases-eq j k);
-           long = i .long;
-           comes = λ j l. i .comes (suc j) (omega arith);
-           once = λ a b l m. i .once (suc a) (suc b) (omega arith) (omega arith);
-           unopened = λ j l. kept .others (getD ks j 0) (λ z. i .once 0 (suc j) (omega arith) (omega arith) (sym z)) .mark ∙ i .unopened (suc j) (omega arith);
-           sum =
-             take-xor (s .list .length) (s .held .bits) (row-of ops k)
-             ∙ (ap (λ (z : List ℕ). xor-bytes z (row-of ops k)) (i .sum) ∙ sym (sum-push (s .list .length) done (row-of ops k)));
-           count =
-             count-more (s .held .seals) _ (s .list .length) k (i .unopened 0 (omega arith)) (kept .mark) (kept .others) (s .parties)
-             ∙ (ap (λ (b : Bool). opened-count (s .held .seals) (s .list .length) (s .parties) + cond b 1 0) (lt-ltb k (s .parties) (omega (arith, here, i .parties)))
-             ∙ (ap (λ (n : ℕ). n + 1) (i .count) ∙ sym (length-append done (row-of ops k ∷ []))));
-         })
+        let e = ap (stepped opening) taken in (
+          ap (λ (p : State × _). p .1) e,
+          ap (λ (p : State × _). p .0) e,
+          record {
+            sound = subst Sound-state (ap (λ (p : State × _). p .0) e) (step-sound (opening s) 5 (k ∷ getD ops k []) (i .sound));
+            parties = i .parties;
+            seals =
+                λ j l.
+                ⊎-elim (λ (b : j ≡ k). ap (seal-in (opened (s .held .seals) (s .list .length) (s .parties) (s .list .hash) k (getD ops k []) .seals) (s .list .length)) b ∙ (kept .seal ∙ (ap (seal-in (s .held .seals) (s .list .length)) (sym b) ∙ i .seals j l)))
+                (λ (b : j ≡ k → ⊥). kept .others j b .seal ∙ i .seals j l) (cases-eq j k);
+            long = i .long;
+            comes = λ j l. i .comes (suc j) (omega arith);
+            once = λ a b l m. i .once (suc a) (suc b) (omega arith) (omega arith);
+            unopened = λ j l. kept .others (getD ks j 0) (λ z. i .once 0 (suc j) (omega arith) (omega arith) (sym z)) .mark ∙ i .unopened (suc j) (omega arith);
+            sum =
+                take-xor (s .list .length) (s .held .bits) (row-of ops k)
+                ∙ (ap (λ (z : List ℕ). xor-bytes z (row-of ops k)) (i .sum) ∙ sym (sum-push (s .list .length) done (row-of ops k)));
+            count =
+                count-more (s .held .seals) _ (s .list .length) k (i .unopened 0 (omega arith)) (kept .mark) (kept .others) (s .parties)
+                ∙ (ap (λ (b : Bool). opened-count (s .held .seals) (s .list .length) (s .parties) + cond b 1 0) (lt-ltb k (s .parties) (omega (arith, here, i .parties)))
+                ∙ (ap (λ (n : ℕ). n + 1) (i .count) ∙ sym (length-append done (row-of ops k ∷ []))));
+          },
+        )
 
   abbrev pub All-opened : List (List ℕ) → List ℕ → Sealed → Type 0
   All-opened done ks s =
@@ -141,6 +143,9 @@ module _ (ops : List (List ℕ)) where
   openings-lead [] done s i = (s, refl, subst (λ (d : List (List ℕ)). So-far ops d [] s) (sym (append-nil done)) i, refl)
   openings-lead (k ∷ ks) done s i =
       let n = next-opening s k done ks i in
-      let r = openings-lead ks (done ++ row-of ops k ∷ []) (after s k) (n .2) in
-      (r .0, more (opening s) (opening (after s k)) (opening (r .0)) 5 (k ∷ getD ops k []) (opening-steps ops ks) (n .1) (n .0) (r .1),
-       subst (λ (d : List (List ℕ)). So-far ops d [] (r .0)) (append-assoc done (row-of ops k ∷ []) (map (row-of ops) ks)) (r .2), r .3)
+      let r = openings-lead ks (done ++ row-of ops k ∷ []) (after s k) (n .2) in (
+        r .0,
+        more (opening s) (opening (after s k)) (opening (r .0)) 5 (k ∷ getD ops k []) (opening-steps ops ks) (n .1) (n .0) (r .1),
+        subst (λ (d : List (List ℕ)). So-far ops d [] (r .0)) (append-assoc done (row-of ops k ∷ []) (map (row-of ops) ks)) (r .2),
+        r .3,
+      )

@@ -35,10 +35,10 @@ module _ (s : Script) (r : Right s) (j : ℕ) (row : List ℕ) (l : j < length (
         some-parties = omega (arith, n, r .some-parties);
         few-parties = omega (arith, n, r .few-parties);
         each-opening =
-          λ k h.
+            λ k h.
             ⊎-elim (λ (e : k ≡ party).
-              ap (λ (i : ℕ). length (getD (set (s .openings) party opening) i [])) e
-              ∙ (ap length (getD-set-same (s .openings) party opening [] (r .each-comes j l)) ∙ (length-append (take 32 (getD (s .openings) party [])) row ∙ (let z = salt-long in omega (arith, z, m)))))
+            ap (λ (i : ℕ). length (getD (set (s .openings) party opening) i [])) e
+            ∙ (ap length (getD-set-same (s .openings) party opening [] (r .each-comes j l)) ∙ (length-append (take 32 (getD (s .openings) party [])) row ∙ (let z = salt-long in omega (arith, z, m)))))
             (λ (e : k ≡ party → ⊥). ap length (getD-set-other (s .openings) party k opening [] e) ∙ r .each-opening k (omega (arith, n, h)))
             (cases-eq k party);
         some-comes = r .some-comes;
@@ -53,19 +53,19 @@ module _ (s : Script) (r : Right s) (j : ℕ) (row : List ℕ) (l : j < length (
       (length-map (s .comes) (row-of (set (s .openings) party opening)) ∙ sym (length-set (rows-of s) j row ∙ length-map (s .comes) (row-of (s .openings))))
       (λ i h. each i (omega (arith, h, length-map (s .comes) (row-of (set (s .openings) party opening)))))
     where
-    each : (i : ℕ) → i < length (s .comes) → getD (rows-of (with-bits s party row)) i [] ≡ getD (set (rows-of s) j row) i []
-    each i h =
-        getD-map (row-of (set (s .openings) party opening)) (s .comes) i 0 [] h
-        ∙ ⊎-elim (λ (e : i ≡ j).
+      each : (i : ℕ) → i < length (s .comes) → getD (rows-of (with-bits s party row)) i [] ≡ getD (set (rows-of s) j row) i []
+      each i h =
+          getD-map (row-of (set (s .openings) party opening)) (s .comes) i 0 [] h
+          ∙ ⊎-elim (λ (e : i ≡ j).
           ap (λ (k : ℕ). row-of (set (s .openings) party opening) (getD (s .comes) k 0)) e
           ∙ (ap (drop 32) (getD-set-same (s .openings) party opening [] (r .each-comes j l))
           ∙ (drop-at (take 32 (getD (s .openings) party [])) row 32 salt-long
           ∙ (sym (getD-set-same (rows-of s) j row [] (let n = length-map (s .comes) (row-of (s .openings)) in omega (arith, n, l))) ∙ ap (λ (k : ℕ). getD (set (rows-of s) j row) k []) (sym e)))))
-        (λ (e : i ≡ j → ⊥).
+          (λ (e : i ≡ j → ⊥).
           ap (drop 32) (getD-set-other (s .openings) party (getD (s .comes) i 0) opening [] (apart e))
           ∙ (sym (getD-map (row-of (s .openings)) (s .comes) i 0 [] h) ∙ sym (getD-set-other (rows-of s) j i row [] e)))
-        (cases-eq i j)
-      where
-      apart : (i ≡ j → ⊥) → getD (s .comes) i 0 ≡ party → ⊥
-      apart e q =
-          ⊎-elim (λ (z : i ≡ j). e z) (⊎-elim (λ (z : i < j). r .comes-once i j z l q) (λ (z : j < i). r .comes-once j i z h (sym q))) (cases-order i j)
+          (cases-eq i j)
+        where
+          apart : (i ≡ j → ⊥) → getD (s .comes) i 0 ≡ party → ⊥
+          apart e q =
+              ⊎-elim (λ (z : i ≡ j). e z) (⊎-elim (λ (z : i < j). r .comes-once i j z l q) (λ (z : j < i). r .comes-once j i z h (sym q))) (cases-order i j)

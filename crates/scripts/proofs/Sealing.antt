@@ -57,20 +57,21 @@ module _ (ops : List (List ℕ)) (few : length ops ≤ 255) where
       let p = i .parties in
       let m : record-size len * (s .parties + 1) ≤ record-size len * 255 = mul-le-mul-left (record-size len) (omega (arith, p, l, few)) in
       let ok = seal-ok seals x len (s .parties) (seal-length (s .list .hash) k (getD ops k [])) (λ e. omega (arith, p, e, l, few)) (omega (arith, m, i .room)) in
-      let kept = seal-taken seals x len (s .parties) (s .parties + 1) ok .1 in
-      (ap (λ (r : Result ℕ Refusal). why (done r)) ok,
-       record {
-         sound = step-sound (sealing s) 3 x (i .sound);
-         parties = ap (λ (r : Result ℕ Refusal). number-or r (s .parties)) ok ∙ ap (λ (n : ℕ). n + 1) p;
-         room = omega (arith, kept .size, i .room);
-         seals =
-           λ j h.
-             ⊎-elim (λ (b : j < k). kept .others j (omega (arith, p, b)) .seal ∙ i .seals j b)
-             (λ (b : k ≤ j).
-               let z : j ≡ k = omega arith in
-               ap (seal-in (sealed seals len (s .parties) x .seals) len) (z ∙ sym p) ∙ (kept .seal ∙ ap (λ (n : ℕ). seal-of (s .list .hash) n (getD ops n [])) (sym z)))
-             (cases-lt j k);
-       })
+      let kept = seal-taken seals x len (s .parties) (s .parties + 1) ok .1 in (
+        ap (λ (r : Result ℕ Refusal). why (done r)) ok,
+        record {
+          sound = step-sound (sealing s) 3 x (i .sound);
+          parties = ap (λ (r : Result ℕ Refusal). number-or r (s .parties)) ok ∙ ap (λ (n : ℕ). n + 1) p;
+          room = omega (arith, kept .size, i .room);
+          seals =
+              λ j h.
+              ⊎-elim (λ (b : j < k). kept .others j (omega (arith, p, b)) .seal ∙ i .seals j b)
+              (λ (b : k ≤ j).
+              let z : j ≡ k = omega arith in
+              ap (seal-in (sealed seals len (s .parties) x .seals) len) (z ∙ sym p) ∙ (kept .seal ∙ ap (λ (n : ℕ). seal-of (s .list .hash) n (getD ops n [])) (sym z)))
+              (cases-lt j k);
+        },
+      )
 
   abbrev pub All-sealed : ℕ → Sealed → Type 0
   All-sealed k s =
@@ -85,6 +86,9 @@ module _ (ops : List (List ℕ)) (few : length ops ≤ 255) where
       let l : k < length ops = omega arith in
       let n = next-seal k s l i in
       let x : List ℕ = seal-of (s .list .hash) k (getD ops k []) in
-      let r = seals-lead m (k + 1) (seal-step s x .0) (omega arith) (n .1) in
-      (r .0,
-       subst (λ (xs : List (List ℕ)). Leads (sealing s) (sealing-steps (s .list .hash) k xs) (sealing (r .0))) (sym (drop-more ops k [] l)) (n .0, r .1), r .2, r .3)
+      let r = seals-lead m (k + 1) (seal-step s x .0) (omega arith) (n .1) in (
+        r .0,
+        subst (λ (xs : List (List ℕ)). Leads (sealing s) (sealing-steps (s .list .hash) k xs) (sealing (r .0))) (sym (drop-more ops k [] l)) (n .0, r .1),
+        r .2,
+        r .3,
+      )

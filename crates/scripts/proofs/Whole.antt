@@ -236,10 +236,10 @@ module _ (σ : Script) (r : Right σ) where
         parties = opened-so .parties;
         opened = opened-so .count ∙ rows-count;
         order =
-          at .order
-          ∙ (ap (λ (k : ℕ). ordered (drawn-order k (take (opened-all .list .length) (opened-all .held .bits)) 0)) n
-          ∙ (ap (λ (bytes : List ℕ). ordered (drawn-order (length (σ .names)) bytes 0)) (opened-so .sum)
-          ∙ ap (λ (k : ℕ). ordered (drawn-order (length (σ .names)) (sum-of k (rows-of σ)) 0)) m));
+            at .order
+            ∙ (ap (λ (k : ℕ). ordered (drawn-order k (take (opened-all .list .length) (opened-all .held .bits)) 0)) n
+            ∙ (ap (λ (bytes : List ℕ). ordered (drawn-order (length (σ .names)) bytes 0)) (opened-so .sum)
+            ∙ ap (λ (k : ℕ). ordered (drawn-order (length (σ .names)) (sum-of k (rows-of σ)) 0)) m));
       }
 
 pub runs-whole : Runs-whole

@@ -1,14 +1,12 @@
 use native.Mathlib.Omega.{arith}
-use mathlib.Core.Path.{_≡_, refl, sym, ap, _∙_}
-use mathlib.Core.List.{List, map}
+use mathlib.Core.Path.{_≡_, ap, _∙_}
+use mathlib.Core.List.{List}
 use Prim.Native.Nat.{ℕ, min, _<_}
-use lib.ListN.{length, drop}
-use Rattle.std.specs.declared.option.Option.{Option}
-use Rattle.std.specs.declared.option.Option.the-variants.{Some, None}
+use lib.ListN.{length}
+use Rattle.std.specs.declared.option.Option.the-variants.{Some}
 use Rattle.std.proofs.shelf.Lists.{refilled-is}
 use Rattle.order.specs.Drawings.{drawn-order}
 use Rattle.protocol.specs.Layout.{name-count}
-use Rattle.protocol.specs.Check.{drawing-of}
 use Rattle.protocol.specs.Protocol.{ordered}
 use Rattle.order.proofs.Slices.{drawn-length}
 use Rattle.protocol.proofs.Drawn.{drawn-is}

@@ -1,7 +1,7 @@
-use mathlib.Core.Path.{_≡_, refl, sym, ap, _∙_}
+use mathlib.Core.Path.{ap, _∙_}
 use mathlib.Core.List.{List, map}
 use Prim.Native.Nat.{ℕ}
-use lib.ListN.{length, drop, replicate}
+use lib.ListN.{drop, replicate}
 use Rattle.std.proofs.shelf.Lists.{refilled-is}
 use Rattle.sum.specs.Sums.{sum-from, sum-of}
 use Rattle.protocol.specs.Layout.{parties-of}

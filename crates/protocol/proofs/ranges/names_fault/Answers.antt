@@ -1,6 +1,6 @@
 use native.Mathlib.Omega.{arith}
 use borrow.Author.Needs.{needs}
-use mathlib.Core.Path.{refl, sym, _∙_}
+use mathlib.Core.Path.{refl, sym}
 use Rattle.protocol.specs.Check.{name-fault}
 use Rattle.protocol.proofs.Firsts.{first-none, first-is, first-on}
 use Rattle.protocol.proofs.Faults.{name-fault-is, before-more}

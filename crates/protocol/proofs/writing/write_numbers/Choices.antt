@@ -1,12 +1,9 @@
 use mathlib.Core.Path.{_≡_}
-use mathlib.Core.List.{_++_, map}
+use mathlib.Core.List.{_++_}
 use lib.ListN.{take}
-use Rattle.std.specs.Iters.{counting}
 use Rattle.std.specs.Joined.{joined}
 use Rattle.std.specs.Of.Vec.{vec-items}
-use Rattle.entries.specs.Rows.{name-in, packed-rows}
-use Rattle.protocol.specs.Finished.{party-left}
-use Rattle.protocol.specs.Protocol.{word, written-party}
+use Rattle.protocol.specs.Protocol.{word}
 use Rattle.protocol.proofs.writing.write_numbers.Given as given
 
 abbrev pub Inv-loop-number : given.InvT-loop-number
