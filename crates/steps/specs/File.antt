@@ -26,7 +26,7 @@ unfoldable pub cut-in : ℕ → List ℕ → Bool
 cut-in zero rest = false
 cut-in (suc n) rest = more-cut (λ r. cut-in n r) rest (first-step rest 0)
 
--- no step is shorter than its kind and its length, so a file has fewer steps than bytes
+-- no step is shorter than its kind and its length, so a file has no more steps than bytes
 abbrev pub file-steps : List ℕ → List (ℕ × List ℕ)
 file-steps file = steps-of (length file) file
 
