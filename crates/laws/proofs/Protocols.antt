@@ -73,7 +73,7 @@ openings-counted seals L (suc n) =
     last true = refl
     last false = refl
 
-same-order : (order : List ℕ) (count : ℕ) (o : Outcome) → order-left o (take count order) ≡ drawn-part order count o
+pub same-order : (order : List ℕ) (count : ℕ) (o : Outcome) → order-left o (take count order) ≡ drawn-part order count o
 same-order order count (Drawn used) = refl
 same-order order count RunOut = refl
 

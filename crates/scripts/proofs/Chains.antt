@@ -5,6 +5,7 @@ use Prim.Native.Nat.{ℕ, _+_}
 use Rattle.std.specs.declared.option.Option.{Option}
 use Rattle.std.specs.declared.option.Option.the-variants.{None}
 use Rattle.refusals.specs.declared.Refusal.{Refusal}
+use Rattle.ceremony.specs.Model.{Sealed}
 use Rattle.ceremony.specs.Draws.{State, step}
 use Rattle.runs.specs.Runs.{after-steps, refused-at, refusals-in}
 
@@ -30,3 +31,7 @@ unfolding refusals-in
 none-refused s t [] n a = refl
 none-refused s t (x ∷ xs) n a =
     ap (λ (r : Option Refusal). refused-at n r (refusals-in (step s (x .0) (x .1) .0) (n + 1) xs)) (a .0) ∙ none-refused (step s (x .0) (x .1) .0) t xs (n + 1) (a .1)
+
+-- the list of a state is that of another
+abbrev pub Same-list : Sealed → Sealed → Type 0
+Same-list t s = (t .list ≡ s .list) × (t .held .slots ≡ s .held .slots) × (t .held .index ≡ s .held .index)

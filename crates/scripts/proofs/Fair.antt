@@ -1,11 +1,11 @@
 -- As many files print one order as any other. Assumes nothing.
 use mathlib.Core.Path.{_≡_, refl, sym, ap, subst, _∙_}
 use mathlib.Core.Bool.{Bool, true, false, _&&_}
-use mathlib.Core.List.{List, [], _∷_, _++_}
+use mathlib.Core.List.{List, [], _∷_}
 use Prim.Native.Nat.{ℕ, suc, _*_, _^_, _≤_, _<_}
 use native.Mathlib.Omega.{arith}
 use lib.Dec.{eqb}
-use lib.ListN.{length, getD, set, take}
+use lib.ListN.{length, getD, set}
 use Rattle.std.specs.Vec.{Every}
 use Rattle.std.specs.declared.option.Option.{Option}
 use Rattle.std.specs.declared.option.Option.the-variants.{Some, None}
@@ -31,8 +31,9 @@ use Rattle.counting.proofs.Bytes.{packed-holds}
 use Rattle.counting.proofs.Arrangements.{is-arrangement-holds}
 use Rattle.counting.proofs.Draws.{is-drawn-holds, fair-draw-holds}
 use Rattle.counting.proofs.Enough.{seldom-out-draw-holds}
-use Rattle.scripts.specs.Script.{Script, Right, row-of, rows-of}
-use Rattle.scripts.specs.Fair.{text-of, with-bits, file-with, prints, Fair-file, Seldom-none}
+use Rattle.seals.specs.Seal.{seal-of}
+use Rattle.scripts.specs.Script.{Script, Right, hash-of, row-of, rows-of}
+use Rattle.scripts.specs.Fair.{text-of, opening-with, with-bits, file-with, prints, Fair-file, Seldom-none}
 use Rattle.scripts.proofs.Printed.{prints-whole}
 use Rattle.scripts.proofs.Replaced.{still-right, rows-with}
 
@@ -120,7 +121,7 @@ module _ (s : Script) (r : Right s) (j : ℕ) (l : j < length (s .comes)) where
   same-text : (mine : List ℕ) (a : Option (List ℕ)) → text-of (other mine) a ≡ text-of s a
   same-text mine a =
       ap (λ (k : ℕ). summary-lines (length (s .names)) k (length (s .comes)) a)
-      (length-set (s .openings) (getD (s .comes) j 0) (take 32 (getD (s .openings) (getD (s .comes) j 0) []) ++ bytes-of (s .len) mine))
+      (length-set (s .seals) (getD (s .comes) j 0) (seal-of (hash-of s) (getD (s .comes) j 0) (opening-with s (getD (s .comes) j 0) (bytes-of (s .len) mine))))
 
   module _ (mine : List ℕ) (long : length (bytes-of (s .len) mine) ≡ s .len) where
     right : Right (other mine)

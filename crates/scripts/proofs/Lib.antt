@@ -7,3 +7,5 @@ pub mod Whole
 pub mod Printed
 pub mod Replaced
 pub mod Fair
+pub mod Numbers
+pub mod Made

@@ -12,8 +12,8 @@ use Rattle.std.specs.declared.result.Result.{Result}
 use Rattle.std.specs.declared.result.Result.the-variants.{Ok, Err}
 use Rattle.std.specs.shelf.Text.{sameBytes}
 use Rattle.std.proofs.shelf.Equals.{sameBytes-decides}
-use Rattle.std.proofs.shelf.Lists.{length-append}
-use Rattle.std.proofs.shelf.Tests.{eq-eqb, ne-eqb, le-ltb, lt-ltb, lt-leb, or-from, cases-eq, cases-order}
+use Rattle.std.proofs.shelf.Lists.{length-append, map-push}
+use Rattle.std.proofs.shelf.Tests.{eq-eqb, ne-eqb, le-ltb, lt-ltb, lt-leb, or-from, or-left, or-right, cases-eq, cases-order}
 use Rattle.refusals.specs.declared.Refusal.{Refusal}
 use Rattle.refusals.specs.declared.Refusal.the-variants.{OpeningLength}
 use Rattle.seals.specs.Seal.{seal-of}
@@ -30,8 +30,8 @@ use Rattle.ceremony.specs.Draws.{State, opening, step, why, stepped}
 use Rattle.laws.specs.Sound.{Sound-state, In-opening, Closed}
 use Rattle.laws.proofs.Openings.{take-xor}
 use Rattle.laws.proofs.Runs.{step-sound}
-use Rattle.scripts.specs.Script.{opening-steps, row-of}
-use Rattle.scripts.proofs.Chains.{Leads, more}
+use Rattle.scripts.specs.Script.{opening-steps, row-of, among}
+use Rattle.scripts.proofs.Chains.{Leads, more, Same-list}
 
 opening-ok : (seals hash x : List ℕ) (len parties k : ℕ) → k < parties → has-opened seals len k ≡ false → length x ≡ 32 + len → seal-of hash k x ≡ seal-in seals len k
     → record-size len * k + 33 + length x ≤ length seals → opened seals len parties hash k x .answer ≡ Ok tt
@@ -66,19 +66,35 @@ count-more before after len party b a s (suc n) =
         (⊎-elim (λ (h : party < n). lt-ltb party (suc n) (omega arith) ∙ sym (lt-ltb party n h)) (λ (h : n < party). le-ltb party (suc n) h ∙ sym (le-ltb party n (omega arith))))
         (cases-order party n)
 
--- so far: these rows are added up, and the parties in the rest have not opened
-pub record So-far (ops done : List (List ℕ)) (rest : List ℕ) (s : Sealed) : Type 0 where
+-- one number more in a list
+pub among-last : (j k : ℕ) (ks : List ℕ) → j ≡ k → among j (ks ++ k ∷ []) ≡ true
+among-last j k [] e = or-left (eqb j k) false (eq-eqb j k e)
+among-last j k (i ∷ ks) e = or-right (eqb j i) (among j (ks ++ k ∷ [])) (among-last j k ks e)
+
+pub among-other : (j k : ℕ) (ks : List ℕ) → (j ≡ k → ⊥) → among j (ks ++ k ∷ []) ≡ among j ks
+among-other j k [] e = ap (λ (b : Bool). b || false) (ne-eqb j k e)
+among-other j k (i ∷ ks) e = ap (λ (b : Bool). eqb j i || b) (among-other j k ks e)
+
+-- the record of a party that has opened, or has not
+pub record Marked (ops : List (List ℕ)) (s : Sealed) (j : ℕ) (b : Bool) : Type 0 where
+  pub mark : has-opened (s .held .seals) (s .list .length) j ≡ b
+  pub opening : b ≡ true → opening-in (s .held .seals) (s .list .length) j ≡ getD ops j []
+
+-- so far: these parties have opened and their rows are added up, and the parties in the rest have not
+pub record So-far (xs ops : List (List ℕ)) (opened-by rest : List ℕ) (s : Sealed) : Type 0 where
   pub sound : In-opening s
-  pub parties : s .parties ≡ length ops
-  pub seals : (j : ℕ) → j < length ops → seal-in (s .held .seals) (s .list .length) j ≡ seal-of (s .list .hash) j (getD ops j [])
-  pub long : (j : ℕ) → j < length ops → length (getD ops j []) ≡ 32 + s .list .length
-  pub comes : (i : ℕ) → i < length rest → getD rest i 0 < length ops
+  pub parties : s .parties ≡ length xs
+  pub seals : (j : ℕ) → j < length xs → seal-in (s .held .seals) (s .list .length) j ≡ getD xs j []
+  pub gives : (i : ℕ) → i < length rest → seal-of (s .list .hash) (getD rest i 0) (getD ops (getD rest i 0) []) ≡ getD xs (getD rest i 0) []
+  pub long : (i : ℕ) → i < length rest → length (getD ops (getD rest i 0) []) ≡ 32 + s .list .length
+  pub comes : (i : ℕ) → i < length rest → getD rest i 0 < length xs
   pub once : (i j : ℕ) → i < j → j < length rest → getD rest i 0 ≡ getD rest j 0 → ⊥
   pub unopened : (i : ℕ) → i < length rest → has-opened (s .held .seals) (s .list .length) (getD rest i 0) ≡ false
-  pub sum : take (s .list .length) (s .held .bits) ≡ sum-of (s .list .length) done
-  pub count : opened-count (s .held .seals) (s .list .length) (s .parties) ≡ length done
+  pub marked : (j : ℕ) → j < length xs → Marked ops s j (among j opened-by)
+  pub sum : take (s .list .length) (s .held .bits) ≡ sum-of (s .list .length) (map (row-of ops) opened-by)
+  pub count : opened-count (s .held .seals) (s .list .length) (s .parties) ≡ length opened-by
 
-module _ (ops : List (List ℕ)) where
+module _ (xs ops : List (List ℕ)) where
   -- the state after an opening that is taken
   abbrev pub after : Sealed → ℕ → Sealed
   after s k =
@@ -88,15 +104,16 @@ module _ (ops : List (List ℕ)) where
         parties = s .parties;
       }
 
-  module _ (s : Sealed) (k : ℕ) (done : List (List ℕ)) (ks : List ℕ) (i : So-far ops done (k ∷ ks) s) where
-    here : k < length ops
+  module _ (s : Sealed) (k : ℕ) (before ks : List ℕ) (i : So-far xs ops before (k ∷ ks) s) where
+    here : k < length xs
     here = i .comes 0 (omega arith)
 
     ok : opened (s .held .seals) (s .list .length) (s .parties) (s .list .hash) k (getD ops k []) .answer ≡ Ok tt
     ok =
         let r = later-place (record-size (s .list .length)) k (s .parties) (omega (arith, here, i .parties)) in
-        opening-ok (s .held .seals) (s .list .hash) (getD ops k []) (s .list .length) (s .parties) k (omega (arith, here, i .parties)) (i .unopened 0 (omega arith)) (i .long k here)
-        (sym (i .seals k here)) (omega (arith, r, i .sound .closed .records-room, i .long k here))
+        let n = i .long 0 (omega arith) in
+        opening-ok (s .held .seals) (s .list .hash) (getD ops k []) (s .list .length) (s .parties) k (omega (arith, here, i .parties)) (i .unopened 0 (omega arith)) n
+        (i .gives 0 (omega arith) ∙ sym (i .seals k here)) (omega (arith, r, i .sound .closed .records-room, n))
 
     taken : opening-step s (k ∷ getD ops k []) ≡ (after s k, Ok tt)
     taken =
@@ -108,7 +125,18 @@ module _ (ops : List (List ℕ)) where
     kept : Opening-kept (s .held .seals) (opened (s .held .seals) (s .list .length) (s .parties) (s .list .hash) k (getD ops k []) .seals) (s .list .hash) (getD ops k []) (s .list .length) (s .parties) k
     kept = opening-taken (s .held .seals) (s .list .hash) (getD ops k []) (s .list .length) (s .parties) k ok
 
-    pub next-opening : (step (opening s) 5 (k ∷ getD ops k []) .1 ≡ None) × (step (opening s) 5 (k ∷ getD ops k []) .0 ≡ opening (after s k)) × So-far ops (done ++ row-of ops k ∷ []) ks (after s k)
+    marked-now : (j : ℕ) → j < length xs → Marked ops (after s k) j (among j (before ++ k ∷ []))
+    marked-now j l =
+        ⊎-elim (λ (b : j ≡ k).
+        subst (Marked ops (after s k) j) (sym (among-last j k before b))
+        (subst (λ (q : ℕ). Marked ops (after s k) q true) (sym b) (record { mark = kept .mark; opening = λ _. kept .opening })))
+        (λ (b : j ≡ k → ⊥).
+        let same = kept .others j b in
+        let m = i .marked j l in
+        subst (Marked ops (after s k) j) (sym (among-other j k before b)) (record { mark = same .mark ∙ m .mark; opening = λ e. same .opening ∙ m .opening e }))
+        (cases-eq j k)
+
+    pub next-opening : (step (opening s) 5 (k ∷ getD ops k []) .1 ≡ None) × (step (opening s) 5 (k ∷ getD ops k []) .0 ≡ opening (after s k)) × So-far xs ops (before ++ k ∷ []) ks (after s k)
     next-opening =
         let e = ap (stepped opening) taken in (
           ap (λ (p : State × _). p .1) e,
@@ -120,32 +148,34 @@ module _ (ops : List (List ℕ)) where
                 λ j l.
                 ⊎-elim (λ (b : j ≡ k). ap (seal-in (opened (s .held .seals) (s .list .length) (s .parties) (s .list .hash) k (getD ops k []) .seals) (s .list .length)) b ∙ (kept .seal ∙ (ap (seal-in (s .held .seals) (s .list .length)) (sym b) ∙ i .seals j l)))
                 (λ (b : j ≡ k → ⊥). kept .others j b .seal ∙ i .seals j l) (cases-eq j k);
-            long = i .long;
+            gives = λ j l. i .gives (suc j) (omega arith);
+            long = λ j l. i .long (suc j) (omega arith);
             comes = λ j l. i .comes (suc j) (omega arith);
             once = λ a b l m. i .once (suc a) (suc b) (omega arith) (omega arith);
             unopened = λ j l. kept .others (getD ks j 0) (λ z. i .once 0 (suc j) (omega arith) (omega arith) (sym z)) .mark ∙ i .unopened (suc j) (omega arith);
+            marked = marked-now;
             sum =
                 take-xor (s .list .length) (s .held .bits) (row-of ops k)
-                ∙ (ap (λ (z : List ℕ). xor-bytes z (row-of ops k)) (i .sum) ∙ sym (sum-push (s .list .length) done (row-of ops k)));
+                ∙ (ap (λ (z : List ℕ). xor-bytes z (row-of ops k)) (i .sum)
+                ∙ (sym (sum-push (s .list .length) (map (row-of ops) before) (row-of ops k)) ∙ ap (sum-of (s .list .length)) (sym (map-push (row-of ops) before k))));
             count =
                 count-more (s .held .seals) _ (s .list .length) k (i .unopened 0 (omega arith)) (kept .mark) (kept .others) (s .parties)
                 ∙ (ap (λ (b : Bool). opened-count (s .held .seals) (s .list .length) (s .parties) + cond b 1 0) (lt-ltb k (s .parties) (omega (arith, here, i .parties)))
-                ∙ (ap (λ (n : ℕ). n + 1) (i .count) ∙ sym (length-append done (row-of ops k ∷ []))));
+                ∙ (ap (λ (n : ℕ). n + 1) (i .count) ∙ sym (length-append before (k ∷ []))));
           },
         )
 
-  abbrev pub All-opened : List (List ℕ) → List ℕ → Sealed → Type 0
-  All-opened done ks s =
-      (t : Sealed) × Leads (opening s) (opening-steps ops ks) (opening t) × So-far ops (done ++ map (row-of ops) ks) [] t × (t .list ≡ s .list)
+  abbrev pub All-opened : List ℕ → List ℕ → Sealed → Type 0
+  All-opened before ks s = (t : Sealed) × Leads (opening s) (opening-steps ops ks) (opening t) × So-far xs ops (before ++ ks) [] t × Same-list t s
 
-  pub openings-lead : (ks : List ℕ) (done : List (List ℕ)) (s : Sealed) → So-far ops done ks s → All-opened done ks s
+  pub openings-lead : (ks before : List ℕ) (s : Sealed) → So-far xs ops before ks s → All-opened before ks s
   unfolding opening-steps
-  openings-lead [] done s i = (s, refl, subst (λ (d : List (List ℕ)). So-far ops d [] s) (sym (append-nil done)) i, refl)
-  openings-lead (k ∷ ks) done s i =
-      let n = next-opening s k done ks i in
-      let r = openings-lead ks (done ++ row-of ops k ∷ []) (after s k) (n .2) in (
+  openings-lead [] before s i = (s, refl, subst (λ (d : List ℕ). So-far xs ops d [] s) (sym (append-nil before)) i, (refl, refl, refl))
+  openings-lead (k ∷ ks) before s i =
+      let n = next-opening s k before ks i in
+      let r = openings-lead ks (before ++ k ∷ []) (after s k) (n .2) in (
         r .0,
         more (opening s) (opening (after s k)) (opening (r .0)) 5 (k ∷ getD ops k []) (opening-steps ops ks) (n .1) (n .0) (r .1),
-        subst (λ (d : List (List ℕ)). So-far ops d [] (r .0)) (append-assoc done (row-of ops k ∷ []) (map (row-of ops) ks)) (r .2),
+        subst (λ (d : List ℕ). So-far xs ops d [] (r .0)) (append-assoc before (k ∷ []) ks) (r .2),
         r .3,
       )

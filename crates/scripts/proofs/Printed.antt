@@ -20,7 +20,7 @@ use Rattle.scripts.specs.Fair.{script-file, printed, Prints-whole}
 use Rattle.scripts.proofs.Whole.{runs-whole}
 
 -- the report of a file whose steps are all taken and end the draw
-reported : (ss : List (ℕ × List ℕ)) (e : Ended) → after-steps fresh ss ≡ ended e → refusals-in fresh 1 ss ≡ [] → report-of (file-of ss) ≡ told-of [] false (ended e)
+pub reported : (ss : List (ℕ × List ℕ)) (e : Ended) → after-steps fresh ss ≡ ended e → refusals-in fresh 1 ss ≡ [] → report-of (file-of ss) ≡ told-of [] false (ended e)
 reported ss e h k =
     let file : List ℕ = file-of ss in
     let a = again ss (length file) (omega arith) in

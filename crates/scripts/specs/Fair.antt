@@ -17,7 +17,8 @@ use Rattle.runs.specs.Reports.{report-of}
 use Rattle.counting.specs.Counting.{count, few}
 use Rattle.counting.specs.Rows.{bytes-of}
 use Rattle.counting.specs.Orders.{Arrangement}
-use Rattle.scripts.specs.Script.{Script, Right, script-steps, rows-of}
+use Rattle.seals.specs.Seal.{seal-of}
+use Rattle.scripts.specs.Script.{Script, Right, hash-of, script-steps, rows-of}
 
 -- the file of steps of a script
 abbrev pub script-file : Script → List ℕ
@@ -29,16 +30,27 @@ printed file = report-of file .refusals ++ report-of file .summary
 
 -- the text of a draw of this script that ends with this order, or with none
 abbrev pub text-of : Script → Option (List ℕ) → List ℕ
-text-of s order = summary-lines (length (s .names)) (length (s .openings)) (length (s .comes)) order
+text-of s order = summary-lines (length (s .names)) (length (s .seals)) (length (s .comes)) order
 
 -- PRINTS WHOLE: the draw of every script's file prints its counts, and the order drawn from the sum of its openings
 abbrev pub Prints-whole : Type 0
 Prints-whole = (s : Script) → Right s → printed (script-file s) ≡ text-of s (ordered (drawn-order (length (s .names)) (sum-of (s .len) (rows-of s)) 0))
 
--- the script in which a party puts in other bits; its 32 bytes stay, and its seal in the file is that of the new opening
+-- a party's opening with other bits: its 32 bytes stay
+abbrev pub opening-with : Script → ℕ → List ℕ → List ℕ
+opening-with s party row = take 32 (getD (s .openings) party []) ++ row
+
+-- the script in which a party puts in other bits, with the seal that they give
 abbrev pub with-bits : Script → ℕ → List ℕ → Script
 with-bits s party row =
-    record { names = s .names; entered = s .entered; len = s .len; openings = set (s .openings) party (take 32 (getD (s .openings) party []) ++ row); comes = s .comes }
+    record {
+      names = s .names;
+      entered = s .entered;
+      len = s .len;
+      seals = set (s .seals) party (seal-of (hash-of s) party (opening-with s party row));
+      openings = set (s .openings) party (opening-with s party row);
+      comes = s .comes;
+    }
 
 -- the file in which the party whose opening comes at place j puts in this row of bits
 abbrev pub file-with : Script → ℕ → List ℕ → List ℕ

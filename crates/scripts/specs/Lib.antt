@@ -1,3 +1,4 @@
 pub mod Script
 pub mod Whole
 pub mod Fair
+pub mod Made

@@ -1,7 +1,9 @@
 -- A script: a draw as it should go, and its file of steps. Assumes nothing.
 use mathlib.Core.Path.{_≡_}
+use mathlib.Core.Bool.{Bool, false, _||_}
 use mathlib.Core.List.{List, [], _∷_, _++_, map}
 use Prim.Native.Nat.{ℕ, _+_, _≤_, _<_}
+use lib.Dec.{eqb}
 use lib.ListN.{length, getD, drop}
 use Rattle.std.specs.Slices.{Shuffled}
 use Rattle.std.specs.shelf.Lists.{Has}
@@ -13,16 +15,22 @@ use Rattle.seals.specs.Steps.{most-parties}
 use Rattle.ceremony.specs.Steps.{shortest, longest}
 use Rattle.protocol.specs.Protocol.{word}
 
--- the list of names, and the same names in the order in which they are entered; how many bytes each party puts in; for each party its opening, 32 bytes and its
--- bits; and the parties whose openings come, in the order in which they come
+-- the list of names, and the same names in the order in which they are entered; how many bytes each party puts in; for each party its seal, and its opening, 32
+-- bytes and its bits; and the parties whose openings come, in the order in which they come. The opening of a party whose opening does not come is of no account
 pub record Script : Type 0 where
   pub names : List (List ℕ)
   pub entered : List (List ℕ)
   pub len : ℕ
+  pub seals : List (List ℕ)
   pub openings : List (List ℕ)
   pub comes : List ℕ
 
--- 1 to 2,000 names of 1 to 64 bytes, none twice; 64 to 8,192 bytes from each of 1 to 255 parties; and at least one opening, of each party one at most
+-- the list's hash
+abbrev pub hash-of : Script → List ℕ
+hash-of s = sha256 (packed-rows (s .names))
+
+-- 1 to 2,000 names of 1 to 64 bytes, none twice; 64 to 8,192 bytes from each of 1 to 255 parties, each with a seal of 32 bytes; and at least one opening, of each
+-- party one at most, that gives the party's seal
 pub record Right (s : Script) : Type 0 where
   pub some-names : 0 < length (s .names)
   pub few-names : length (s .names) ≤ most-names
@@ -31,21 +39,20 @@ pub record Right (s : Script) : Type 0 where
   pub same-names : Shuffled (s .names) (s .entered)
   pub enough-bits : shortest ≤ s .len
   pub few-bits : s .len ≤ longest
-  pub some-parties : 0 < length (s .openings)
-  pub few-parties : length (s .openings) ≤ most-parties
-  pub each-opening : (k : ℕ) → k < length (s .openings) → length (getD (s .openings) k []) ≡ 32 + s .len
+  pub some-parties : 0 < length (s .seals)
+  pub few-parties : length (s .seals) ≤ most-parties
+  pub as-many : length (s .openings) ≡ length (s .seals)
+  pub each-seal : (k : ℕ) → k < length (s .seals) → length (getD (s .seals) k []) ≡ 32
   pub some-comes : 0 < length (s .comes)
-  pub each-comes : (i : ℕ) → i < length (s .comes) → getD (s .comes) i 0 < length (s .openings)
+  pub each-comes : (i : ℕ) → i < length (s .comes) → getD (s .comes) i 0 < length (s .seals)
   pub comes-once : (i j : ℕ) → i < j → j < length (s .comes) → getD (s .comes) i 0 ≡ getD (s .comes) j 0 → ⊥
+  pub each-opening : (i : ℕ) → i < length (s .comes) → length (getD (s .openings) (getD (s .comes) i 0) []) ≡ 32 + s .len
+  pub gives : (i : ℕ) → i < length (s .comes)
+      → seal-of (hash-of s) (getD (s .comes) i 0) (getD (s .openings) (getD (s .comes) i 0) []) ≡ getD (s .seals) (getD (s .comes) i 0) []
 
--- the list's hash
-abbrev pub hash-of : Script → List ℕ
-hash-of s = sha256 (packed-rows (s .names))
-
--- the seals of the parties from number k on
-unfoldable pub sealing-steps : List ℕ → ℕ → List (List ℕ) → List (ℕ × List ℕ)
-sealing-steps hash k [] = []
-sealing-steps hash k (x ∷ xs) = (3, seal-of hash k x) ∷ sealing-steps hash (k + 1) xs
+-- a seal as a step
+abbrev pub seal-step-of : List ℕ → ℕ × List ℕ
+seal-step-of x = (3, x)
 
 -- the openings of parties
 unfoldable pub opening-steps : List (List ℕ) → List ℕ → List (ℕ × List ℕ)
@@ -59,7 +66,7 @@ entry-of x = (1, x)
 abbrev pub script-steps : Script → List (ℕ × List ℕ)
 script-steps s =
     map entry-of (s .entered)
-    ++ ((2, word (s .len)) ∷ (sealing-steps (hash-of s) 0 (s .openings) ++ ((4, []) ∷ (opening-steps (s .openings) (s .comes) ++ ((6, []) ∷ [])))))
+    ++ ((2, word (s .len)) ∷ (map seal-step-of (s .seals) ++ ((4, []) ∷ (opening-steps (s .openings) (s .comes) ++ ((6, []) ∷ [])))))
 
 -- the bits of the openings that come
 abbrev pub row-of : List (List ℕ) → ℕ → List ℕ
@@ -67,3 +74,8 @@ row-of openings k = drop 32 (getD openings k [])
 
 abbrev pub rows-of : Script → List (List ℕ)
 rows-of s = map (row-of (s .openings)) (s .comes)
+
+-- whether a number stands in a list
+abbrev pub among : ℕ → List ℕ → Bool
+among j [] = false
+among j (k ∷ ks) = eqb j k || among j ks

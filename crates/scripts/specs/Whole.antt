@@ -19,7 +19,7 @@ pub record Ends (s : Script) (e : Ended) : Type 0 where
   pub run : after-steps fresh (script-steps s) ≡ ended e
   pub none-refused : refusals-in fresh 1 (script-steps s) ≡ []
   pub names : e .list .count ≡ length (s .names)
-  pub parties : e .parties ≡ length (s .openings)
+  pub parties : e .parties ≡ length (s .seals)
   pub opened : opened-count (e .held .seals) (e .list .length) (e .parties) ≡ length (s .comes)
   pub order : order-of e ≡ ordered (drawn-order (length (s .names)) (sum-of (s .len) (rows-of s)) 0)
 

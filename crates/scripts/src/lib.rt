@@ -1,6 +1,7 @@
 // Whole draws: what the run of every script comes to, and that it favours nobody. No program calls these functions: each
 // is there so that its contract demands the proof of a theorem.
 ghost use Rattle.scripts.specs.Fair.{Prints-whole, Fair-file, Seldom-none};
+ghost use Rattle.scripts.specs.Made.{Made-by-steps};
 ghost use Rattle.scripts.specs.Whole.{Runs-whole};
 
 // The run of every script takes each step and ends.
@@ -27,6 +28,13 @@ pub fn fair_file_stands() -> u8
 // And few of them print that there is none.
 pub fn seldom_none_stands() -> u8
     ensures { λ _. ⌜ Seldom-none ⌝ }
+{
+    0
+}
+
+// And every accepted protocol is the one that the run of some file of steps writes.
+pub fn made_by_steps_stands() -> u8
+    ensures { λ _. ⌜ Made-by-steps ⌝ }
 {
     0
 }
