@@ -7,5 +7,6 @@ pub mod Whole
 pub mod Printed
 pub mod Replaced
 pub mod Fair
+pub mod Files
 pub mod Numbers
 pub mod Made

@@ -27,13 +27,26 @@ use Rattle.ceremony.specs.Model.{Ended}
 use Rattle.ceremony.specs.Reports.{order-of, protocol-left}
 use Rattle.laws.proofs.Protocols.{same-order}
 use Rattle.runs.specs.Reports.{Told}
-use Rattle.scripts.specs.Script.{Script, Right, among, row-of, rows-of, script-steps}
+use Rattle.scripts.specs.Script.{Script, Right, among, row-of, rows-of, script-steps, entry-of, seal-step-of, opening-steps}
 use Rattle.scripts.specs.Fair.{script-file}
 use Rattle.scripts.specs.Whole.{Ends}
-use Rattle.scripts.specs.Made.{opened-numbers, opening-or-none, script-of, Made-by-steps}
-use Rattle.scripts.proofs.Numbers.{numbers-fine, numbers-rise, among-numbers, numbers-openings}
+use Rattle.scripts.specs.Made.{Made-by-steps}
+use Rattle.scripts.proofs.Files.{Row, Fits, fits-append, fits-map, fits-openings, row-word, file-bytes}
+use Rattle.scripts.proofs.Numbers.{opened-numbers, opening-or-none, numbers-fine, numbers-rise, among-numbers, numbers-openings}
 use Rattle.scripts.proofs.Whole.{Left, script-run}
 use Rattle.scripts.proofs.Printed.{reported}
+
+-- the script of a protocol: the names are entered in their order, and the openings come in that of the parties
+abbrev script-of : Protocol → Script
+script-of d =
+    record {
+      names = d .names;
+      entered = d .names;
+      len = d .bits-length;
+      seals = map (λ (p : Party). p .seal) (d .parties);
+      openings = map opening-or-none (d .parties);
+      comes = opened-numbers (d .parties) (length (d .parties));
+    }
 
 module _ (d : Protocol) (o : Of-draw d) where
   abbrev ps : List Party
@@ -103,6 +116,33 @@ module _ (d : Protocol) (o : Of-draw d) where
             ap (seal-of hash (getD comes i 0)) (opening-at (getD comes i 0) f) ∙ (came i l .gives ∙ sym (seal-at (getD comes i 0) f));
       }
 
+  -- its file is a file of bytes
+  made-bytes : Bytes (script-file (script-of d))
+  made-bytes =
+      let names : Fits (map entry-of (d .names)) =
+      fits-map 1 (d .names) (omega arith) (λ k l. let w = o .each-name k l in (w .bytes, let n = w .short in omega (arith, n))) in
+      let seals : Fits (map seal-step-of (script-of d .seals)) =
+      fits-map 3 (script-of d .seals) (omega arith)
+      (λ k l.
+      let m : k < length ps = omega (arith, length-map ps (λ (p : Party). p .seal), l) in
+      subst Row (sym (seal-at k m)) (o .each-party k m .bytes, let n = o .each-party k m .long in omega (arith, n))) in
+      let openings : Fits (opening-steps (script-of d .openings) comes) =
+      fits-openings (script-of d .openings) comes
+      (λ i l.
+      let f = numbers-fine ps (length ps) i l .0 in
+      let g = came i l in
+      let e = opening-at (getD comes i 0) f in
+      let n = ap length e ∙ g .long in
+      (omega (arith, f, o .few-parties), subst Bytes (sym e) (g .bytes), omega (arith, n, o .few-bits))) in
+      let none : Row [] = (λ i. omega arith, omega arith) in
+      let last : Fits ((6, []) ∷ []) = (omega arith, none, tt) in
+      file-bytes (script-steps (script-of d))
+      (fits-append (map entry-of (d .names)) _ names (
+        omega arith,
+        row-word (d .bits-length) (omega (arith, o .few-bits)),
+        fits-append (map seal-step-of (script-of d .seals)) _ seals (omega arith, none, fits-append (opening-steps (script-of d .openings) comes) _ openings last),
+      ))
+
   module _ (e : Ended) (i : Ends (script-of d) e) (m : Left (script-of d) e) where
     seals-many : length (map (λ (p : Party). p .seal) ps) ≡ length ps
     seals-many = length-map ps (λ (p : Party). p .seal)
@@ -147,4 +187,4 @@ made-by-steps bytes names parties opened order b h =
     let e : Ended = w .0 in
     let i = w .1 in
     let t = reported (script-steps s) e (i .run) (i .none-refused) in
-    (script-file s, ap (λ (r : Told). r .ending) t, ap (λ (r : Told). r .protocol) t ∙ (ap written (made-again d (drawn .1) e i (w .2)) ∙ drawn .2))
+    (script-file s, made-bytes d (drawn .1), ap (λ (r : Told). r .ending) t, ap (λ (r : Told). r .protocol) t ∙ (ap written (made-again d (drawn .1) e i (w .2)) ∙ drawn .2))

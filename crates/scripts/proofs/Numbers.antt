@@ -17,8 +17,16 @@ use Rattle.std.proofs.shelf.Tests.{cases-lt, cases-eq}
 use Rattle.protocol.specs.Protocol.{Party, openings}
 use Rattle.protocol.specs.Draws.{no-party}
 use Rattle.scripts.specs.Script.{among, row-of}
-use Rattle.scripts.specs.Made.{opened-numbers, opening-or-none}
 use Rattle.scripts.proofs.Opening.{among-last, among-other}
+
+-- the first n parties' numbers, of those that opened
+unfoldable pub opened-numbers : List Party → ℕ → List ℕ
+opened-numbers ps zero = []
+opened-numbers ps (suc n) = opened-numbers ps n ++ cond (isSome (getD ps n no-party .opening)) (n ∷ []) []
+
+-- the opening of a party that opened
+abbrev pub opening-or-none : Party → List ℕ
+opening-or-none p = valueOr (p .opening) []
 
 module _ (ps : List Party) where
   abbrev opened : ℕ → Bool
