@@ -1,11 +1,10 @@
 -- A number written behind the others, and turned into its place. Assumes nothing.
-use mathlib.Core.Path.{_≡_, refl, sym, ap, _∙_}
+use mathlib.Core.Path.{_≡_, sym, ap, _∙_}
 use mathlib.Core.List.{List, [], _∷_, _++_, append-assoc}
 use Prim.Native.Nat.{ℕ, _+_, _-_, _≤_, _<_}
 use native.Mathlib.Omega.{arith}
 use borrow.Rule.Slice.PartMut.{putMid}
 use lib.ListN.{length, take, drop, set}
-use Rattle.std.specs.Holes.{inserted}
 use Rattle.std.proofs.shelf.Lists.{take-at, drop-at, take-take, take-set-le, drop-set-lt, drop-drop, take-more-set, drop-append-le, length-push, length-take-le}
 use Rattle.std.proofs.shelf.Parts.{between-is}
 use Rattle.entries.specs.Entry.{inserted-number}

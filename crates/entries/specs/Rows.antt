@@ -1,5 +1,5 @@
 -- Names in memory: slots of 65 bytes in the order of arrival, and an index of slots in the order of the list. Assumes nothing.
-use mathlib.Core.List.{List, [], _∷_, _++_, map}
+use mathlib.Core.List.{List, _∷_, map}
 use Prim.Native.Nat.{ℕ, _+_, _*_}
 use lib.ListN.{length, take, drop, getD}
 use Rattle.sha256.specs.Sha256.{sha256}

@@ -1,5 +1,5 @@
 -- Memory holds bytes where the file does. Assumes nothing.
-use mathlib.Core.Path.{_≡_, refl, sym, ap, subst, _∙_}
+use mathlib.Core.Path.{_≡_, refl, sym, subst}
 use mathlib.Core.Bool.{Bool, true, false, cond, _||_}
 use mathlib.Core.List.{List, [], _∷_, _++_}
 use mathlib.Core.Logic.{⊎-elim}
@@ -24,8 +24,8 @@ use Rattle.seals.specs.Steps.{seal-fault, sealed-at, opening-fault, opened-at}
 use Rattle.ceremony.specs.declared.memory.ClosedList.{ClosedList}
 use Rattle.ceremony.specs.Model.{Held, Listed, Sealed, Ended}
 use Rattle.ceremony.specs.Steps.{entry-step, listed-by, length-given, listing-closed, list-close, seal-step, sealed-by, seals-close, opening-step, opened-by, list-to-draw, closed-with, final-close}
-use Rattle.ceremony.specs.Draws.{State, listing, sealing, opening, ended, stepped, closed, refused, step}
-use Rattle.steps.specs.Reading.{Found, end, cut, length-of, first-step}
+use Rattle.ceremony.specs.Draws.{State, listing, sealing, opening, ended, stepped, closed, step}
+use Rattle.steps.specs.Reading.{end, cut, length-of}
 use Rattle.steps.specs.Reading as reading
 use Rattle.steps.specs.File.{more-steps, steps-of, file-steps}
 use Rattle.runs.specs.Runs.{after-steps}

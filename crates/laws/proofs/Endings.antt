@@ -1,27 +1,25 @@
 -- The final close: the order is the one drawn from the sum. Assumes nothing.
-use mathlib.Core.Path.{_≡_, refl, sym, ap, subst, _∙_}
-use mathlib.Core.Bool.{Bool, true, false, cond}
-use mathlib.Core.List.{List, [], _++_}
-use Prim.Native.Nat.{ℕ, zero, suc, _≤_, _<_}
+use mathlib.Core.Path.{_≡_, refl, ap, subst}
+use mathlib.Core.List.{List}
+use Prim.Native.Nat.{ℕ, _≤_, _<_}
 use native.Mathlib.Omega.{arith}
-use lib.Dec.{eqb, ltb}
+use lib.Dec.{eqb}
 use lib.ListN.{length, take, drop}
-use Rattle.std.specs.declared.option.Option.{Option}
-use Rattle.std.specs.declared.option.Option.the-variants.{Some, None}
+use Rattle.std.specs.declared.option.Option.the-variants.{Some}
 use Rattle.std.specs.declared.result.Result.{Result}
 use Rattle.std.specs.declared.result.Result.the-variants.{Ok, Err}
 use Rattle.std.proofs.shelf.Lists.{take-at, length-append, length-drop}
 use Rattle.std.proofs.shelf.Tests.{eqb-false}
 use Rattle.refusals.specs.declared.Refusal.{Refusal}
-use Rattle.refusals.specs.declared.Refusal.the-variants.{Nothing, NoRoom}
+use Rattle.refusals.specs.declared.Refusal.the-variants.{Nothing}
 use Rattle.order.specs.Drawings.{Drawing, drawn, run-out, drawn-order, outcome, left-in}
 use Rattle.order.proofs.Slices.{drawn-length}
 use Rattle.ceremony.specs.declared.memory.ClosedList.{ClosedList}
 use Rattle.protocol.specs.Protocol.{ordered}
-use Rattle.ceremony.specs.Model.{Held, Sealed, Ended}
+use Rattle.ceremony.specs.Model.{Sealed, Ended}
 use Rattle.ceremony.specs.Steps.{opened-count, drawing-of, order-after, list-to-draw, closed-with, final-close, with-order}
-use Rattle.ceremony.specs.Reports.{drawn-part, order-of}
-use Rattle.laws.specs.Sound.{In-opening, At-end, Closed, before-end}
+use Rattle.ceremony.specs.Reports.{drawn-part}
+use Rattle.laws.specs.Sound.{In-opening, At-end}
 use Rattle.laws.proofs.Answers.{passed, ok-is, positive}
 
 module _ (n : ℕ) (bytes order : List ℕ) (l : n ≤ length order) where

@@ -1,27 +1,27 @@
 -- Entries, and the closing of the list, keep the state sound. Assumes nothing.
-use mathlib.Core.Path.{_≡_, refl, sym, ap, subst, _∙_}
-use mathlib.Core.Bool.{Bool, true, false, cond, not, _||_}
-use mathlib.Core.List.{List, [], _++_}
-use Prim.Native.Nat.{ℕ, zero, suc, _+_, _*_, _≤_, _<_}
+use mathlib.Core.Path.{_≡_, refl, sym, subst, _∙_}
+use mathlib.Core.Bool.{not, _||_}
+use mathlib.Core.List.{List, _++_}
+use Prim.Native.Nat.{ℕ, _+_, _*_, _≤_, _<_}
 use native.Mathlib.Omega.{arith}
 use lib.Dec.{eqb, ltb}
-use lib.ListN.{length, take, drop, replicate}
+use lib.ListN.{length, drop, replicate}
 use Rattle.std.specs.declared.result.Result.{Result}
 use Rattle.std.specs.declared.result.Result.the-variants.{Ok, Err}
-use Rattle.std.proofs.shelf.Lists.{take-at, length-replicate, length-append, length-drop}
+use Rattle.std.proofs.shelf.Lists.{take-at, length-replicate, length-append}
 use Rattle.std.proofs.shelf.Tests.{or-parts, ltb-false, eqb-false}
 use Rattle.refusals.specs.declared.Refusal.{Refusal}
 use Rattle.refusals.specs.declared.Refusal.the-variants.{BitsLength, Nothing, NoRoom}
 use Rattle.entries.specs.Rows.{most-names}
 use Rattle.entries.specs.Entry.{entered}
-use Rattle.listing.specs.Listing.{Listing, Sound, counted, after-entry}
+use Rattle.listing.specs.Listing.{Listing, Sound, counted}
 use Rattle.listing.proofs.Entry.{entry-keeps, entry-needs}
-use Rattle.seals.specs.Records.{record-size, has-opened}
+use Rattle.seals.specs.Records.{record-size}
 use Rattle.records.specs.Records.{opened-rows}
 use Rattle.sum.specs.Sums.{sum-of, sum-from}
-use Rattle.ceremony.specs.Model.{Held, Listed, Sealed}
+use Rattle.ceremony.specs.Model.{Listed, Sealed}
 use Rattle.ceremony.specs.Steps.{closed-list, number-or, entry-step, two-bytes, length-given, listing-closed, list-close, shortest, longest}
-use Rattle.laws.specs.Sound.{list-of, In-listing, In-sealing, Closed}
+use Rattle.laws.specs.Sound.{list-of, In-listing, In-sealing}
 use Rattle.laws.proofs.Answers.{passed, ok-is, positive}
 
 same-count : (r : Result ℕ Refusal) (count : ℕ) → counted r count ≡ number-or r count

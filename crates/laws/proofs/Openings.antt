@@ -1,30 +1,27 @@
 -- Openings keep the state sound: the bits stay the sum of the openings. Assumes nothing.
-use mathlib.Core.Path.{_≡_, refl, sym, ap, subst, _∙_}
-use mathlib.Core.Bool.{Bool, true, false, cond}
+use mathlib.Core.Path.{_≡_, refl, sym, ap, _∙_}
 use mathlib.Core.List.{List, [], _∷_}
 use mathlib.Core.Logic.{⊎-elim}
-use Prim.Native.Nat.{ℕ, zero, suc, _+_, _*_, _≤_, _<_}
+use Prim.Native.Nat.{ℕ, zero, suc}
 use native.Mathlib.Omega.{arith}
 use lib.Bits.{bitXor}
-use lib.ListN.{length, take, drop, getD}
+use lib.ListN.{length, take, drop}
 use Rattle.std.specs.declared.option.Option.the-variants.{None}
 use Rattle.std.specs.declared.result.Result.{Result}
 use Rattle.std.specs.declared.result.Result.the-variants.{Ok, Err}
 use Rattle.std.proofs.shelf.Tests.{cases-eq}
 use Rattle.refusals.specs.declared.Refusal.{Refusal}
 use Rattle.seals.specs.Seal.{seal-of}
-use Rattle.seals.specs.Records.{record-size, seal-in, has-opened, opening-in}
+use Rattle.seals.specs.Records.{seal-in, opening-in}
 use Rattle.seals.specs.Steps.{opened}
-use Rattle.records.specs.Records.{opened-rows}
-use Rattle.records.specs.Laws.{Opening-kept}
 use Rattle.records.proofs.Kept.{opening-taken}
 use Rattle.records.proofs.Summed.{opening-summed}
-use Rattle.sum.specs.Sums.{xor-bytes, sum-of}
+use Rattle.sum.specs.Sums.{xor-bytes}
 use Rattle.sum.proofs.Sums.{length-xor}
-use Rattle.ceremony.specs.Model.{Held, Sealed}
+use Rattle.ceremony.specs.Model.{Sealed}
 use Rattle.ceremony.specs.Steps.{with-seals, sum-after}
 use Rattle.ceremony.specs.Draws.{why}
-use Rattle.laws.specs.Sound.{In-opening, Closed}
+use Rattle.laws.specs.Sound.{In-opening}
 use Rattle.laws.proofs.Sealings.{still-given}
 
 -- a row added to bytes is added to each front of them

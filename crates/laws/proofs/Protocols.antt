@@ -9,7 +9,6 @@ use lib.ListN.{length, take, drop, getD}
 use Rattle.std.specs.Iters.{counting}
 use Rattle.std.specs.Options.{Cases}
 use Rattle.std.specs.Vec.{listOf}
-use Rattle.std.specs.declared.option.Option.{Option}
 use Rattle.std.specs.declared.option.Option.the-variants.{Some, None}
 use Rattle.std.proofs.shelf.Counted.{length-map-counting, getD-map-counting, map-counting-more}
 use Rattle.std.proofs.shelf.Lists.{length-append, length-take-le, length-drop, length-map, getD-map, map-append, joined-more}
@@ -17,13 +16,13 @@ use Rattle.sha256.specs.Sha256.{sha256}
 use Rattle.entries.specs.Rows.{listed, packed-rows, name-in, slot-size}
 use Rattle.listing.proofs.Memory.{length-names, name-lengths}
 use Rattle.seals.specs.Records.{record-size, seal-in, has-opened, opening-in}
-use Rattle.records.specs.Records.{row-of, opened-rows}
-use Rattle.records.proofs.Places.{next-place, later-place}
+use Rattle.records.specs.Records.{opened-rows}
+use Rattle.records.proofs.Places.{later-place}
 use Rattle.sum.specs.Sums.{sum-of}
 use Rattle.order.specs.declared.Outcome.{Outcome}
 use Rattle.order.specs.declared.Outcome.the-variants.{Drawn, RunOut}
 use Rattle.order.specs.Drawings.{drawn-order}
-use Rattle.protocol.specs.Protocol.{Party, Protocol, openings, drawing-from, ordered}
+use Rattle.protocol.specs.Protocol.{Party, openings, ordered}
 use Rattle.protocol.specs.Finished.{party-left, order-left}
 use Rattle.protocol.specs.Draws.{Bytes, Name, Opening, Party-of, Of-draw, no-party, acceptance}
 use Rattle.protocol.specs.Check.{accepted}
@@ -31,7 +30,7 @@ use Rattle.ceremony.specs.Model.{Ended}
 use Rattle.ceremony.specs.Steps.{opened-count}
 use Rattle.ceremony.specs.Reports.{drawn-part, order-of, protocol-left}
 use Rattle.ceremony.specs.Draws.{ended}
-use Rattle.laws.specs.Sound.{At-end, Closed, before-end, list-of}
+use Rattle.laws.specs.Sound.{At-end, list-of}
 use Rattle.protocol.specs.Texts.{verdict-text}
 use Rattle.laws.specs.Laws.{Run-protocols}
 use Rattle.laws.proofs.Runs.{end-sound}

@@ -1,7 +1,7 @@
 -- A refused step changes nothing. Assumes nothing.
-use mathlib.Core.Path.{_≡_, refl, sym, ap, _∙_}
+use mathlib.Core.Path.{_≡_, refl}
 use mathlib.Core.Bool.{Bool, true, false, cond}
-use mathlib.Core.List.{List, [], _∷_}
+use mathlib.Core.List.{List}
 use Prim.Native.Nat.{ℕ}
 use native.Mathlib.Omega.{arith}
 use lib.Dec.{eqb}
@@ -15,9 +15,9 @@ use Rattle.refusals.specs.declared.Refusal.the-variants.{OpeningLength}
 use Rattle.entries.specs.Place.{place-for}
 use Rattle.entries.specs.Entry.{slot-for, entered-at, entered-into}
 use Rattle.seals.specs.Steps.{seal-fault, sealed-at, opening-fault, opened-at}
-use Rattle.ceremony.specs.Model.{Listed, Sealed, Ended}
+use Rattle.ceremony.specs.Model.{Listed, Sealed}
 use Rattle.ceremony.specs.Steps.{entry-step, listed-by, list-close, seal-step, sealed-by, seals-close, opening-step, opened-by, final-close}
-use Rattle.ceremony.specs.Draws.{State, listing, sealing, opening, ended, stepped, closed, refused, why, step}
+use Rattle.ceremony.specs.Draws.{State, listing, sealing, opening, ended, stepped, closed, step}
 use Rattle.laws.specs.Laws.{Refused-unchanged}
 
 -- what is told of a pair of a state and an answer: where the answer refuses, the state is this one

@@ -1,11 +1,11 @@
 -- The protocol that a draw writes is accepted. Assumes nothing.
-use mathlib.Core.Path.{_≡_, refl, sym, ap, _∙_}
+use mathlib.Core.Path.{_≡_, refl, ap, _∙_}
 use mathlib.Core.Bool.{Bool, true, false}
 use mathlib.Core.List.{List}
 use Prim.Native.Nat.{ℕ}
 use native.Mathlib.Omega.{arith}
 use Rattle.protocol.specs.Protocol.{written}
-use Rattle.protocol.specs.Check.{Verdict, verdict}
+use Rattle.protocol.specs.Check.{verdict}
 use Rattle.protocol.specs.Draws.{Bytes}
 use Rattle.protocol.specs.Texts.{verdict-text, is-accepted}
 use Rattle.protocol.proofs.AcceptsDrawn.{accepts-drawn}

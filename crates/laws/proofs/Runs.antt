@@ -12,19 +12,18 @@ use Rattle.std.specs.declared.result.Result.{Result}
 use Rattle.std.specs.declared.result.Result.the-variants.{Ok, Err}
 use Rattle.refusals.specs.declared.Refusal.{Refusal}
 use Rattle.refusals.specs.declared.Refusal.the-variants.{OpeningLength}
-use Rattle.seals.specs.Steps.{sealed, opened}
+use Rattle.seals.specs.Steps.{opened}
 use Rattle.listing.proofs.Memory.{sound-none}
 use Rattle.order.specs.Drawings.{drawn-order}
 use Rattle.texts.specs.Lines.{order-words}
 use Rattle.protocol.specs.Protocol.{ordered}
-use Rattle.ceremony.specs.Model.{Listed, Sealed, Ended, no-entries}
-use Rattle.ceremony.specs.Steps.{entry-step, list-close, seal-step, seals-close, opening-step, opened-by, final-close}
-use Rattle.ceremony.specs.Reports.{order-of}
-use Rattle.ceremony.specs.Draws.{State, listing, sealing, opening, ended, stepped, closed, refused, why, step}
+use Rattle.ceremony.specs.Model.{Sealed, Ended}
+use Rattle.ceremony.specs.Steps.{list-close, seals-close, opening-step, opened-by, final-close}
+use Rattle.ceremony.specs.Draws.{State, listing, sealing, opening, ended, stepped, closed, refused, step}
 use Rattle.steps.specs.File.{file-steps}
 use Rattle.runs.specs.Runs.{after-steps}
 use Rattle.runs.specs.Reports.{zeros, fresh, run-of}
-use Rattle.laws.specs.Sound.{Sound-state, In-listing, In-sealing, In-opening, At-end}
+use Rattle.laws.specs.Sound.{Sound-state, In-opening, At-end}
 use Rattle.laws.specs.Laws.{Runs-sound, Sum-of-openings, Independence}
 use Rattle.laws.proofs.Refusals.{refused-unchanged}
 use Rattle.laws.proofs.Listings.{entry-sound, list-close-sound}

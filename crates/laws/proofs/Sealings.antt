@@ -1,12 +1,12 @@
 -- Seals, and the closing of the seals, keep the state sound. Assumes nothing.
-use mathlib.Core.Path.{_≡_, refl, sym, ap, subst, _∙_}
-use mathlib.Core.Bool.{Bool, true, false, cond}
+use mathlib.Core.Path.{_≡_, sym, ap, subst, _∙_}
+use mathlib.Core.Bool.{true}
 use mathlib.Core.List.{List}
 use mathlib.Core.Logic.{⊎-elim}
-use Prim.Native.Nat.{ℕ, zero, suc, _+_, _*_, _≤_, _<_}
+use Prim.Native.Nat.{ℕ, _*_, _≤_, _<_}
 use native.Mathlib.Omega.{arith}
 use lib.Dec.{eqb}
-use lib.ListN.{length, take}
+use lib.ListN.{length}
 use Rattle.std.specs.declared.result.Result.{Result}
 use Rattle.std.specs.declared.result.Result.the-variants.{Ok, Err}
 use Rattle.std.proofs.shelf.Tests.{cases-lt, both-ways, eqb-false}
@@ -15,16 +15,15 @@ use Rattle.refusals.specs.declared.Refusal.the-variants.{Nothing}
 use Rattle.seals.specs.Seal.{seal-of}
 use Rattle.seals.specs.Records.{record-size, seal-in, has-opened, opening-in}
 use Rattle.seals.specs.Steps.{sealed}
-use Rattle.records.specs.Records.{opened-rows}
-use Rattle.records.specs.Laws.{Same, Seal-kept}
+use Rattle.records.specs.Laws.{Same}
 use Rattle.records.proofs.Kept.{seal-taken}
 use Rattle.records.proofs.Summed.{seal-unsummed}
 use Rattle.sum.specs.Sums.{sum-of}
-use Rattle.ceremony.specs.Model.{Held, Sealed}
-use Rattle.ceremony.specs.Steps.{number-or, done, with-seals, seal-step, seals-close}
+use Rattle.ceremony.specs.Model.{Sealed}
+use Rattle.ceremony.specs.Steps.{number-or, done, with-seals, seals-close}
 use Rattle.ceremony.specs.Draws.{why}
 use Rattle.std.specs.declared.option.Option.the-variants.{None}
-use Rattle.laws.specs.Sound.{In-sealing, In-opening, Closed}
+use Rattle.laws.specs.Sound.{In-sealing, In-opening}
 use Rattle.laws.proofs.Answers.{passed, ok-is, positive}
 
 -- what is known of an opening stays with a record that stays

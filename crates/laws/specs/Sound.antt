@@ -1,7 +1,6 @@
 -- What holds of the state in every run. Assumes nothing.
 use mathlib.Core.Path.{_≡_}
 use mathlib.Core.Bool.{true, false}
-use mathlib.Core.List.{List}
 use Prim.Native.Nat.{ℕ, _*_, _<_, _≤_}
 use lib.ListN.{length, take}
 use Rattle.entries.specs.Rows.{list-hash, most-names}

@@ -1,7 +1,7 @@
 -- The turns of the loop over the steps of a file. Assumes nothing.
-use mathlib.Core.Path.{_≡_, refl, sym, ap, _∙_}
+use mathlib.Core.Path.{_≡_, sym, ap, _∙_}
 use mathlib.Core.Bool.{Bool, true, false}
-use mathlib.Core.List.{List, [], _∷_, _++_, append-assoc, append-nil}
+use mathlib.Core.List.{List, [], _++_, append-assoc, append-nil}
 use Prim.Native.Nat.{ℕ, _+_, _-_, _≤_, _<_}
 use native.Mathlib.Omega.{arith}
 use lib.ListN.{length, drop}
@@ -10,7 +10,7 @@ use Rattle.std.specs.declared.option.Option.the-variants.{Some, None}
 use Rattle.refusals.specs.declared.Refusal.{Refusal}
 use Rattle.ceremony.specs.Draws.{State}
 use Rattle.ceremony.specs.Draws as draws
-use Rattle.steps.specs.Reading.{Found, end, cut, step, step-at}
+use Rattle.steps.specs.Reading.{end, cut, step, step-at}
 use Rattle.steps.specs.File.{steps-of, cut-in}
 use Rattle.steps.proofs.Files.{at-end, at-cut, at-step}
 use Rattle.runs.specs.Runs.{after-steps, refusals-in, refused-at, line-of, refusal-lines}

@@ -1,5 +1,5 @@
 -- The report of a run in memory that is all zeros. Assumes nothing.
-use mathlib.Core.Path.{_≡_, refl, sym, ap, subst, _∙_}
+use mathlib.Core.Path.{_≡_, ap, _∙_}
 use mathlib.Core.Bool.{Bool}
 use mathlib.Core.List.{List, [], _++_}
 use Prim.Native.Nat.{ℕ}
@@ -11,7 +11,7 @@ use Rattle.ceremony.specs.Draws.{State, listing}
 use Rattle.steps.specs.File.{file-steps, file-cut}
 use Rattle.runs.specs.declared.report.Report.{Report}
 use Rattle.runs.specs.Runs.{after-steps, refusals-in, refusal-lines}
-use Rattle.runs.specs.Reports.{Told, zeros, report, told-of, report-of, report-from}
+use Rattle.runs.specs.Reports.{zeros, report, told-of, report-of, report-from}
 
 pub whole-run : {E : Type 0} (m : Held) (s : Listed) (file none lines : List ℕ) (cut : Bool) (last : State) (r : Result Report E)
     → m ≡ zeros → s ≡ no-entries m → none ≡ [] → last ≡ after-steps (listing s) (file-steps file) → cut ≡ file-cut file

@@ -1,11 +1,11 @@
 -- What a run of a file tells. Assumes nothing.
 use mathlib.Core.Bool.{Bool, true, false}
-use mathlib.Core.List.{List, [], _++_}
-use Prim.Native.Nat.{ℕ, _+_, _*_}
+use mathlib.Core.List.{List, []}
+use Prim.Native.Nat.{ℕ}
 use lib.ListN.{replicate}
 use Rattle.std.specs.Of.String.{string-bytes}
 use Rattle.std.specs.Of.Vec.{vec-items}
-use Rattle.ceremony.specs.Model.{Held, Ended, no-entries}
+use Rattle.ceremony.specs.Model.{Held, no-entries}
 use Rattle.ceremony.specs.Draws.{State, listing, sealing, opening, ended}
 use Rattle.ceremony.specs.Reports.{summary-of, left-out-of, protocol-left}
 use Rattle.protocol.specs.Protocol.{written}

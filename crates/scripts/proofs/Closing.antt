@@ -1,20 +1,17 @@
 -- The list of a script closes. Assumes nothing.
-use mathlib.Core.Path.{_≡_, refl, sym, ap, _∙_}
-use mathlib.Core.Bool.{Bool, true, false, not, _||_}
-use mathlib.Core.List.{List, [], _∷_}
-use Prim.Native.Nat.{ℕ, _+_, _*_, _%_, _/_, _≤_, _<_}
+use mathlib.Core.Path.{_≡_, ap}
+use Prim.Native.Nat.{ℕ, _≤_, _<_}
 use native.Mathlib.Omega.{arith}
-use lib.Dec.{eqb, ltb}
+use lib.Dec.{ltb}
 use lib.ListN.{length}
-use Rattle.std.specs.declared.option.Option.{Option}
-use Rattle.std.specs.declared.option.Option.the-variants.{Some, None}
+use Rattle.std.specs.declared.option.Option.the-variants.{None}
 use Rattle.std.specs.declared.result.Result.{Result}
-use Rattle.std.specs.declared.result.Result.the-variants.{Ok, Err}
-use Rattle.std.proofs.shelf.Tests.{eq-eqb, ne-eqb, le-ltb, or-from}
+use Rattle.std.specs.declared.result.Result.the-variants.{Ok}
+use Rattle.std.proofs.shelf.Tests.{ne-eqb, le-ltb, or-from}
 use Rattle.refusals.specs.declared.Refusal.{Refusal}
-use Rattle.ceremony.specs.Model.{Listed, Sealed}
-use Rattle.ceremony.specs.Steps.{two-bytes, length-given, listing-closed, list-close, shortest, longest}
-use Rattle.ceremony.specs.Draws.{State, listing, sealing, closed, step}
+use Rattle.ceremony.specs.Model.{Listed}
+use Rattle.ceremony.specs.Steps.{two-bytes, length-given, shortest, longest}
+use Rattle.ceremony.specs.Draws.{State, closed}
 use Rattle.protocol.specs.Protocol.{word}
 
 -- a length in two bytes is read again

@@ -1,16 +1,13 @@
 -- The entries of a script are all taken, and the list closes. Assumes nothing.
-use mathlib.Core.Path.{_≡_, refl, sym, ap, subst, _∙_}
-use mathlib.Core.List.{List, [], _∷_, _++_, map}
-use Prim.Native.Nat.{ℕ, zero, suc, _+_, _*_, _%_, _/_, _≤_, _<_}
+use mathlib.Core.Path.{_≡_, refl, sym, ap, _∙_}
+use mathlib.Core.List.{List, [], _∷_, map}
+use Prim.Native.Nat.{ℕ, suc, _≤_, _<_}
 use native.Mathlib.Omega.{arith}
-use lib.ListN.{length, getD, replicate}
+use lib.ListN.{length}
 use Rattle.std.specs.shelf.Lists.{Has}
 use Rattle.std.specs.Slices.{Shuffled}
-use Rattle.std.specs.declared.option.Option.{Option}
-use Rattle.std.specs.declared.option.Option.the-variants.{Some, None}
 use Rattle.std.specs.declared.result.Result.{Result}
 use Rattle.std.specs.declared.result.Result.the-variants.{Ok, Err}
-use Rattle.std.proofs.shelf.Lists.{length-replicate}
 use Rattle.std.proofs.shelf.Sorted.{length-shuffled, has-shuffled, shuffled-sym}
 use Rattle.refusals.specs.declared.Refusal.{Refusal}
 use Rattle.entries.specs.Entry.{entered}
@@ -20,8 +17,8 @@ use Rattle.listing.proofs.Held.{all-listed}
 use Rattle.listing.proofs.SameRows.{same-sorted}
 use Rattle.listing.proofs.Runs.{list-sorted, list-holds}
 use Rattle.ceremony.specs.Model.{Held, Listed}
-use Rattle.ceremony.specs.Steps.{with-list, number-or, done, listed-by, entry-step}
-use Rattle.ceremony.specs.Draws.{State, listing, stepped, why, step}
+use Rattle.ceremony.specs.Steps.{with-list, number-or, done}
+use Rattle.ceremony.specs.Draws.{listing, why}
 use Rattle.scripts.specs.Script.{entry-of}
 use Rattle.scripts.proofs.Chains.{Leads, more}
 

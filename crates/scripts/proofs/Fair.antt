@@ -1,6 +1,6 @@
 -- As many files print one order as any other. Assumes nothing.
 use mathlib.Core.Path.{_≡_, refl, sym, ap, subst, _∙_}
-use mathlib.Core.Bool.{Bool, true, false, _&&_}
+use mathlib.Core.Bool.{Bool, true, false}
 use mathlib.Core.List.{List, [], _∷_}
 use Prim.Native.Nat.{ℕ, suc, _*_, _^_, _≤_, _<_}
 use native.Mathlib.Omega.{arith}
@@ -14,8 +14,7 @@ use Rattle.std.proofs.shelf.Equals.{sameBytes-decides}
 use Rattle.std.proofs.shelf.Lists.{length-map, length-set}
 use Rattle.std.proofs.shelf.Tests.{eqb-true, eq-eqb, and-parts, and-from}
 use Rattle.uniform.specs.Bits.{bits}
-use Rattle.uniform.specs.Draws.{width}
-use Rattle.order.specs.Orders.{Order, some, none, order-names}
+use Rattle.order.specs.Orders.{Order, some, none}
 use Rattle.order.specs.Drawings.{told, drawn-order, bits-read}
 use Rattle.sum.specs.Sums.{sum-of}
 use Rattle.protocol.specs.Protocol.{ordered}

@@ -1,10 +1,10 @@
 -- The script of a protocol makes it again. Assumes nothing.
 use mathlib.Core.Path.{_≡_, refl, sym, ap, subst, _∙_}
-use mathlib.Core.Bool.{Bool, true, false, cond}
+use mathlib.Core.Bool.{Bool, true, cond}
 use mathlib.Core.List.{List, [], _∷_, map}
-use Prim.Native.Nat.{ℕ, suc, _+_, _≤_, _<_}
+use Prim.Native.Nat.{ℕ, suc, _≤_, _<_}
 use native.Mathlib.Omega.{arith}
-use lib.ListN.{length, getD, take, drop}
+use lib.ListN.{length, getD, drop}
 use Rattle.std.specs.Iters.{counting}
 use Rattle.std.specs.Options.{Cases, isSome, valueOr}
 use Rattle.std.specs.declared.option.Option.{Option}
@@ -13,18 +13,18 @@ use Rattle.std.proofs.shelf.Counted.{fill-by-all}
 use Rattle.std.proofs.shelf.Lists.{length-map, getD-map, take-all}
 use Rattle.std.proofs.shelf.Sorted.{shuffled-refl}
 use Rattle.sha256.specs.Sha256.{sha256}
-use Rattle.entries.specs.Rows.{listed, packed-rows}
+use Rattle.entries.specs.Rows.{packed-rows}
 use Rattle.seals.specs.Seal.{seal-of}
 use Rattle.seals.specs.Records.{seal-in, has-opened, opening-in}
 use Rattle.order.specs.Drawings.{drawn-order}
 use Rattle.sum.specs.Sums.{sum-of}
 use Rattle.protocol.specs.Protocol.{Party, Protocol, openings, written, ordered}
 use Rattle.protocol.specs.Check.{verdict}
-use Rattle.protocol.specs.Draws.{Bytes, Opening, Party-of, Of-draw, no-party}
+use Rattle.protocol.specs.Draws.{Bytes, Opening, Of-draw, no-party}
 use Rattle.protocol.specs.Finished.{party-left}
 use Rattle.protocol.proofs.AcceptsOnlyDrawn.{accepts-only-drawn}
 use Rattle.ceremony.specs.Model.{Ended}
-use Rattle.ceremony.specs.Reports.{order-of, protocol-left}
+use Rattle.ceremony.specs.Reports.{protocol-left}
 use Rattle.laws.proofs.Protocols.{same-order}
 use Rattle.runs.specs.Reports.{Told}
 use Rattle.scripts.specs.Script.{Script, Right, among, row-of, rows-of, script-steps, entry-of, seal-step-of, opening-steps}

@@ -1,22 +1,21 @@
 -- The numbers of the parties that opened. Assumes nothing.
 use mathlib.Core.Path.{_≡_, refl, sym, ap, subst, _∙_}
-use mathlib.Core.Bool.{Bool, true, false, cond, _||_}
+use mathlib.Core.Bool.{Bool, true, false, cond}
 use mathlib.Core.List.{List, [], _∷_, _++_, append-nil, map}
 use mathlib.Core.Logic.{⊎-elim}
 use Prim.Native.Nat.{ℕ, zero, suc, _+_, _≤_, _<_}
 use native.Mathlib.Omega.{arith}
 use native.Mathlib.Numerals.{add-one}
-use lib.Dec.{eqb}
-use lib.ListN.{length, getD, take, drop}
+use lib.ListN.{length, getD, take}
 use Rattle.std.specs.Options.{isSome, valueOr}
 use Rattle.std.specs.Vec.{listOf}
 use Rattle.std.specs.declared.option.Option.{Option}
 use Rattle.std.specs.declared.option.Option.the-variants.{Some, None}
-use Rattle.std.proofs.shelf.Lists.{getD-append-left, getD-push, length-push, getD-map, map-append, take-more, joined-more, length-append}
+use Rattle.std.proofs.shelf.Lists.{getD-append-left, getD-push, length-push, map-append, take-more, joined-more}
 use Rattle.std.proofs.shelf.Tests.{cases-lt, cases-eq}
 use Rattle.protocol.specs.Protocol.{Party, openings}
 use Rattle.protocol.specs.Draws.{no-party}
-use Rattle.scripts.specs.Script.{among, row-of}
+use Rattle.scripts.specs.Script.{among}
 use Rattle.scripts.proofs.Opening.{among-last, among-other}
 
 -- the first n parties' numbers, of those that opened

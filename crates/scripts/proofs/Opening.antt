@@ -1,6 +1,6 @@
 -- The openings of a script are all taken. Assumes nothing.
 use mathlib.Core.Path.{_≡_, refl, sym, ap, subst, _∙_}
-use mathlib.Core.Bool.{Bool, true, false, cond, not, _||_}
+use mathlib.Core.Bool.{Bool, true, false, cond, _||_}
 use mathlib.Core.List.{List, [], _∷_, _++_, append-assoc, append-nil, map}
 use mathlib.Core.Logic.{⊎-elim}
 use Prim.Native.Nat.{ℕ, zero, suc, _+_, _*_, _≤_, _<_}
@@ -24,10 +24,10 @@ use Rattle.records.proofs.Kept.{opening-taken}
 use Rattle.records.proofs.Places.{later-place}
 use Rattle.records.proofs.Turned.{sum-push}
 use Rattle.sum.specs.Sums.{xor-bytes, sum-of}
-use Rattle.ceremony.specs.Model.{Held, Sealed}
+use Rattle.ceremony.specs.Model.{Sealed}
 use Rattle.ceremony.specs.Steps.{with-seals, sum-after, opened-by, opening-step, opened-count}
-use Rattle.ceremony.specs.Draws.{State, opening, step, why, stepped}
-use Rattle.laws.specs.Sound.{Sound-state, In-opening, Closed}
+use Rattle.ceremony.specs.Draws.{State, opening, step, stepped}
+use Rattle.laws.specs.Sound.{Sound-state, In-opening}
 use Rattle.laws.proofs.Openings.{take-xor}
 use Rattle.laws.proofs.Runs.{step-sound}
 use Rattle.scripts.specs.Script.{opening-steps, row-of, among}

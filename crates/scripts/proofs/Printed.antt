@@ -1,6 +1,6 @@
 -- What the draw of a script's file prints. Assumes nothing.
-use mathlib.Core.Path.{_≡_, refl, sym, ap, _∙_}
-use mathlib.Core.Bool.{Bool, true, false}
+use mathlib.Core.Path.{_≡_, ap, _∙_}
+use mathlib.Core.Bool.{Bool, false}
 use mathlib.Core.List.{List, [], _++_}
 use Prim.Native.Nat.{ℕ}
 use native.Mathlib.Omega.{arith}
@@ -8,15 +8,13 @@ use lib.ListN.{length}
 use Rattle.refusals.specs.declared.Refusal.{Refusal}
 use Rattle.texts.specs.Lines.{summary-lines}
 use Rattle.ceremony.specs.Model.{Ended}
-use Rattle.ceremony.specs.Reports.{summary-of}
-use Rattle.ceremony.specs.Draws.{State, ended}
-use Rattle.steps.specs.File.{file-of, file-steps, file-cut}
+use Rattle.ceremony.specs.Draws.{ended}
+use Rattle.steps.specs.File.{file-of, file-cut}
 use Rattle.steps.proofs.Again.{again}
 use Rattle.runs.specs.Runs.{after-steps, refusals-in, refusal-lines}
 use Rattle.runs.specs.Reports.{Told, fresh, told-of, report-of}
-use Rattle.scripts.specs.Script.{Script, Right, script-steps}
-use Rattle.scripts.specs.Whole.{Ends}
-use Rattle.scripts.specs.Fair.{script-file, printed, Prints-whole}
+use Rattle.scripts.specs.Script.{script-steps}
+use Rattle.scripts.specs.Fair.{Prints-whole}
 use Rattle.scripts.proofs.Whole.{runs-whole}
 
 -- the report of a file whose steps are all taken and end the draw

@@ -1,30 +1,27 @@
 -- The seals of a script are all taken. Assumes nothing.
 use mathlib.Core.Path.{_≡_, refl, sym, ap, subst, _∙_}
-use mathlib.Core.Bool.{Bool, true, false, not}
-use mathlib.Core.List.{List, [], _∷_, map}
+use mathlib.Core.List.{List, [], map}
 use mathlib.Core.Logic.{⊎-elim}
 use Prim.Native.Nat.{ℕ, zero, suc, _+_, _*_, _≤_, _<_}
 use native.Mathlib.Omega.{arith}
 use native.Mathlib.Nat.{mul-le-mul-left}
-use lib.Dec.{eqb, ltb}
 use lib.ListN.{length, getD, drop}
 use Rattle.std.specs.declared.option.Option.the-variants.{None}
 use Rattle.std.specs.declared.result.Result.{Result}
 use Rattle.std.specs.declared.result.Result.the-variants.{Ok}
-use Rattle.std.proofs.shelf.Lists.{drop-more, drop-all, length-drop}
+use Rattle.std.proofs.shelf.Lists.{drop-more, drop-all}
 use Rattle.std.proofs.shelf.Tests.{eq-eqb, ne-eqb, le-ltb, cases-lt}
 use Rattle.refusals.specs.declared.Refusal.{Refusal}
-use Rattle.seals.specs.Records.{record-size, seal-in, has-opened}
-use Rattle.seals.specs.Steps.{seal-fault, sealed-at, sealed, most-parties}
+use Rattle.seals.specs.Records.{record-size, seal-in}
+use Rattle.seals.specs.Steps.{seal-fault, sealed-at, sealed}
 use Rattle.records.proofs.Kept.{seal-taken}
-use Rattle.ceremony.specs.declared.memory.ClosedList.{ClosedList}
-use Rattle.ceremony.specs.Model.{Held, Sealed}
-use Rattle.ceremony.specs.Steps.{number-or, done, with-seals, seal-step}
-use Rattle.ceremony.specs.Draws.{State, sealing, step, why}
+use Rattle.ceremony.specs.Model.{Sealed}
+use Rattle.ceremony.specs.Steps.{number-or, done, seal-step}
+use Rattle.ceremony.specs.Draws.{sealing, step, why}
 use Rattle.laws.specs.Sound.{In-sealing}
 use Rattle.laws.proofs.Runs.{step-sound}
 use Rattle.scripts.specs.Script.{seal-step-of}
-use Rattle.scripts.proofs.Chains.{Leads, more, Same-list}
+use Rattle.scripts.proofs.Chains.{Leads, Same-list}
 
 seal-ok : (seals x : List ℕ) (len parties : ℕ) → length x ≡ 32 → (parties ≡ 255 → ⊥) → record-size len * (parties + 1) ≤ length seals
     → sealed seals len parties x .answer ≡ Ok (parties + 1)

@@ -1,18 +1,14 @@
 -- The run of a script, from its first entry to its end. Assumes nothing.
-use mathlib.Core.Path.{_≡_, refl, sym, ap, subst, _∙_}
-use mathlib.Core.Bool.{Bool, true, false, cond}
-use mathlib.Core.List.{List, [], _∷_, _++_, append-nil, map}
-use Prim.Native.Nat.{ℕ, zero, suc, _+_, _*_, _≤_, _<_}
+use mathlib.Core.Path.{_≡_, refl, sym, ap, _∙_}
+use mathlib.Core.Bool.{true, false}
+use mathlib.Core.List.{List, [], _∷_, _++_, map}
+use Prim.Native.Nat.{ℕ, zero, suc, _+_, _<_}
 use native.Mathlib.Omega.{arith}
-use lib.Dec.{eqb, ltb}
 use lib.ListN.{length, getD, take, drop, replicate}
-use Rattle.std.specs.declared.option.Option.the-variants.{None}
-use Rattle.std.specs.declared.result.Result.{Result}
 use Rattle.std.specs.declared.result.Result.the-variants.{Ok}
 use Rattle.std.proofs.shelf.Lists.{length-replicate}
 use Rattle.std.proofs.shelf.Sorted.{length-shuffled}
 use Rattle.std.proofs.shelf.Tests.{ne-eqb, le-ltb}
-use Rattle.refusals.specs.declared.Refusal.{Refusal}
 use Rattle.sha256.specs.Sha256.{sha256}
 use Rattle.entries.specs.Rows.{listed, packed-rows}
 use Rattle.listing.specs.Listing.{Listing, names, after-entries, no-entries}
@@ -20,24 +16,22 @@ use Rattle.listing.specs.Laws.{Room-for}
 use Rattle.listing.proofs.Memory.{sound-none, length-names}
 use Rattle.listing.proofs.Runs.{entries-keep}
 use Rattle.seals.specs.Seal.{seal-of}
-use Rattle.seals.specs.Records.{record-size, seal-in, has-opened, opening-in}
+use Rattle.seals.specs.Records.{seal-in, has-opened, opening-in}
 use Rattle.records.specs.Records.{row-of as record-row, opened-rows}
 use Rattle.records.proofs.Rows.{row-none}
 use Rattle.sum.specs.Sums.{sum-of}
 use Rattle.order.specs.Drawings.{drawn-order, outcome}
 use Rattle.protocol.specs.Protocol.{word, ordered}
 use Rattle.ceremony.specs.declared.memory.ClosedList.{ClosedList}
-use Rattle.ceremony.specs.Model.{Held, Listed, Sealed, Ended}
-use Rattle.ceremony.specs.Steps.{with-seals, with-order, closed-list, length-given, listing-closed, list-close, seals-close, opened-count, drawing-of, order-after, list-to-draw, closed-with, final-close}
-use Rattle.ceremony.specs.Reports.{order-of}
-use Rattle.ceremony.specs.Draws.{State, listing, sealing, opening, ended, step}
+use Rattle.ceremony.specs.Model.{Listed, Sealed, Ended}
+use Rattle.ceremony.specs.Steps.{with-seals, with-order, closed-list, listing-closed, list-close, seals-close, opened-count, drawing-of, order-after, list-to-draw, closed-with, final-close}
+use Rattle.ceremony.specs.Draws.{listing, sealing, opening, ended}
 use Rattle.runs.specs.Reports.{zeros, fresh}
-use Rattle.laws.specs.Sound.{Sound-state, In-listing, In-sealing, In-opening, At-end, Closed}
-use Rattle.laws.proofs.Runs.{step-sound}
+use Rattle.laws.specs.Sound.{In-listing}
 use Rattle.laws.proofs.Listings.{list-close-sound}
 use Rattle.laws.proofs.Sealings.{seals-close-sound}
 use Rattle.laws.proofs.Endings.{final-sound}
-use Rattle.scripts.specs.Script.{Script, Right, hash-of, seal-step-of, opening-steps, entry-of, script-steps, row-of, rows-of, among}
+use Rattle.scripts.specs.Script.{Script, Right, hash-of, seal-step-of, opening-steps, entry-of, script-steps, rows-of, among}
 use Rattle.scripts.specs.Whole.{Ends, Runs-whole}
 use Rattle.scripts.proofs.Chains.{Leads, more, joined, leads-to, none-refused}
 use Rattle.scripts.proofs.Entries.{with-listing, list-is, entries-lead}

@@ -1,8 +1,8 @@
 -- What the run of a script comes to. Assumes nothing.
 use mathlib.Core.Path.{_≡_}
-use mathlib.Core.List.{List, []}
+use mathlib.Core.List.{[]}
 use Prim.Native.Nat.{ℕ}
-use lib.ListN.{length, take}
+use lib.ListN.{length}
 use Rattle.ceremony.specs.Model.{Ended}
 use Rattle.ceremony.specs.Draws.{ended}
 use Rattle.ceremony.specs.Steps.{opened-count}

@@ -7,7 +7,6 @@ use lib.ListN.{length, take, drop}
 use mathlib.Core.Logic.{⊎-elim}
 use Rattle.std.proofs.shelf.Lists.{take-append-drop, take-at, drop-at, append-cancel-left, length-take, take-all, drop-all}
 use Rattle.std.proofs.shelf.Tests.{cases-lt}
-use Rattle.sha256.specs.Sha256.{sha256}
 use Rattle.seals.specs.Seal.{sealed-message, seal-of, Two-openings}
 
 -- the message as it is hashed, part by part

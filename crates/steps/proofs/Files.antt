@@ -2,15 +2,14 @@
 use mathlib.Core.Path.{_≡_, refl, sym, ap, _∙_}
 use mathlib.Core.Bool.{Bool, true, false, cond}
 use mathlib.Core.List.{List, [], _∷_}
-use mathlib.Core.Logic.{⊎-elim}
 use Prim.Native.Nat.{ℕ, zero, suc, _+_, _-_, _≤_, _<_}
 use native.Mathlib.Omega.{arith}
 use lib.Dec.{ltb, leb}
 use lib.ListN.{length, take, drop, getD}
-use Rattle.std.proofs.shelf.Lists.{drop-drop, length-drop, drop-all}
-use Rattle.std.proofs.shelf.Tests.{cases-bool, leb-true, ltb-true}
+use Rattle.std.proofs.shelf.Lists.{drop-drop, length-drop}
+use Rattle.std.proofs.shelf.Tests.{leb-true, ltb-true}
 use Rattle.steps.specs.Reading.{Found, end, cut, step, length-of, first-step, step-at}
-use Rattle.steps.specs.File.{more-steps, more-cut, steps-of, cut-in}
+use Rattle.steps.specs.File.{steps-of, cut-in}
 
 -- what stands at the head of a rest, its place told from another start
 abbrev shifted : ℕ → Found → Found

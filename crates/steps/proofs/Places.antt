@@ -1,5 +1,5 @@
 -- What stands at a place of a file, by the bytes of the whole file. Assumes nothing.
-use mathlib.Core.Path.{_≡_, refl, sym, ap, _∙_}
+use mathlib.Core.Path.{_≡_, sym, ap, _∙_}
 use mathlib.Core.Bool.{true, false}
 use mathlib.Core.List.{List}
 use Prim.Native.Nat.{ℕ, _+_, _-_, _*_, _≤_, _<_}
@@ -8,7 +8,7 @@ use lib.Dec.{ltb, leb}
 use lib.ListN.{length, take, drop, getD}
 use Rattle.std.proofs.shelf.Lists.{getD-drop, drop-drop, length-drop}
 use Rattle.std.proofs.shelf.Tests.{lt-ltb, le-ltb, le-leb, lt-leb}
-use Rattle.steps.specs.Reading.{Found, end, cut, step, length-of, step-at}
+use Rattle.steps.specs.Reading.{end, cut, step, length-of, step-at}
 
 module _ (file : List ℕ) (at : ℕ) where
   length-at : length-of (drop at file) ≡ getD file (at + 1) 0 + 256 * getD file (at + 2) 0

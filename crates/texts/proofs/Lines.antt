@@ -1,6 +1,6 @@
 -- Numbers added to a text one after another. Assumes nothing.
 use Prim.Native.Nat.{ℕ, _+_, _<_, _≤_}
-use mathlib.Core.List.{List, [], _∷_, _++_, append-assoc, append-nil}
+use mathlib.Core.List.{List, _++_, append-assoc, append-nil}
 use mathlib.Core.Path.{_≡_, _∙_, ap, sym}
 use lib.Chars.{codes}
 use lib.ListN.{length, getD, drop}

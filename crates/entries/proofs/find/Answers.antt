@@ -1,13 +1,12 @@
 use native.Mathlib.Omega.{arith}
-use mathlib.Core.Path.{refl, sym, _∙_}
+use mathlib.Core.Path.{sym, _∙_}
 use mathlib.Core.List.{map}
 use Prim.Native.Nat.{ℕ}
 use lib.ListN.{length}
-use Rattle.std.specs.declared.cmp.Ordering.{Ordering}
 use Rattle.std.specs.declared.cmp.Ordering.the-variants.{Less, Equal, Greater}
 use Rattle.std.proofs.shelf.Lists.{length-map}
 use Rattle.entries.specs.Rows.{name-in}
-use Rattle.entries.specs.Place.{place, place-between}
+use Rattle.entries.specs.Place.{place}
 use Rattle.entries.proofs.Halving.{compared, closed}
 use Rattle.entries.proofs.find.Needs as need
 

@@ -1,7 +1,5 @@
 use mathlib.Core.Path.{sym, _∙_}
 use mathlib.Core.List.{[], map}
-use native.Mathlib.Omega.{arith}
-use lib.ListN.{length}
 use Rattle.std.proofs.shelf.Lists.{getD-map, getD-past, length-map}
 use Rattle.entries.specs.Rows.{name-in}
 use Rattle.entries.proofs.name.Needs as need

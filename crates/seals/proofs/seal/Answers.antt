@@ -1,11 +1,9 @@
-use native.Mathlib.Omega.{arith}
-use mathlib.Core.Path.{_≡_, refl, sym, ap, _∙_}
-use mathlib.Core.List.{List, [], _∷_, _++_, append-assoc}
+use mathlib.Core.Path.{ap, _∙_}
+use mathlib.Core.List.{[]}
 use Prim.Native.Nat.{ℕ}
-use lib.ListN.{take, drop}
 use Rattle.sha256.specs.Sha256.{sha256}
 use Rattle.sha256.proofs.Laws.{parts-none, parts-more, parts-hash}
-use Rattle.seals.specs.Seal.{seal-of, sealed-message}
+use Rattle.seals.specs.Seal.{seal-of}
 use Rattle.seals.proofs.Messages.{split-message}
 use Rattle.seals.proofs.seal.Needs as need
 

@@ -1,8 +1,8 @@
 use native.Mathlib.Omega.{arith}
-use mathlib.Core.Path.{_≡_, refl, sym, ap, _∙_}
+use mathlib.Core.Path.{_≡_, refl, ap, _∙_}
 use mathlib.Core.List.{List, _++_}
-use Prim.Native.Nat.{ℕ, _-_, _^_, _<_, min}
-use lib.ListN.{length, take, drop}
+use Prim.Native.Nat.{ℕ, _-_}
+use lib.ListN.{take, drop}
 use Rattle.order.specs.Drawings.{Drawing, drawn-order, outcome, left-in}
 use Rattle.ceremony.proofs.Fronts.{left-front, drawn-front}
 use Rattle.ceremony.proofs.opening.draw_front.Needs as need

@@ -3,7 +3,7 @@ use native.Mathlib.Numerals.{add-one}
 use mathlib.Core.Path.{_≡_, sym, ap, _∙_}
 use mathlib.Core.Bool.{Bool, cond}
 use mathlib.Core.List.{List}
-use Prim.Native.Nat.{ℕ, _+_, _≤_}
+use Prim.Native.Nat.{ℕ, _+_}
 use Rattle.seals.specs.Records.{has-opened}
 use Rattle.ceremony.specs.Steps.{opened-count}
 use Rattle.ceremony.proofs.opening.opened_count.Needs as need

@@ -1,11 +1,8 @@
-use mathlib.Core.Path.{_≡_, sym, ap, _∙_}
-use mathlib.Core.Bool.{false, true, cond}
-use lib.Dec.{eqb}
 use Rattle.std.proofs.shelf.Tests.{eq-eqb, ne-eqb}
 use Rattle.ceremony.specs.Model.{as-listed, as-sealed}
 use Rattle.ceremony.specs.Steps.{list-close}
 use Rattle.ceremony.specs.Draws.{listing, sealing}
-use Rattle.ceremony.proofs.Closings.{stays, passes}
+use Rattle.ceremony.proofs.Closings.{stays}
 use Rattle.ceremony.proofs.step.in_listing.Needs as need
 
 pub returns-in-Err : need.returns-in-Err

@@ -1,7 +1,7 @@
 use native.Mathlib.Omega.{arith}
 use mathlib.Core.Path.{refl}
 use lib.ListN.{length}
-use Rattle.runs.proofs.Turns.{Leads, ends, cuts, goes-on}
+use Rattle.runs.proofs.Turns.{ends, cuts, goes-on}
 use Rattle.runs.proofs.run.run.Needs as need
 
 pub loop-draw-holds : need.loop-draw-holds
