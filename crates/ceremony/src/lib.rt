@@ -3,6 +3,7 @@
 // Entries are taken until the list is closed, seals until the seals are closed, openings until the final close, which
 // draws the order. A closing consumes its state and gives the next, or gives the same state back with the refusal. All
 // memory is lent by the caller and held together.
+#![tactic(auto)]
 mod finished;
 mod listing;
 mod memory;

@@ -1,4 +1,5 @@
 // draw STEPS [PROTOCOL]: runs a file of steps, prints what comes of it, and writes the protocol of a draw that ends.
+#![tactic(auto)]
 use anyhow::anyhow;
 use runs::{Ending, Report, draw};
 use std::{env, fs};

@@ -1,5 +1,6 @@
 // Prints the SHA-256 hash of each message of a file, as a line of hexadecimal digits. In the file each message stands after
 // its length in four bytes, the low byte first.
+#![tactic(auto)]
 ghost use Rattle.std.specs.Prelude.{◌<◌, length, IfSome};
 
 use anyhow::anyhow;

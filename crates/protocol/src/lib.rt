@@ -4,6 +4,7 @@
 // number of names; the names, each after its length; how many bytes each party puts in; the number of parties; for each
 // party its seal of 32 bytes, one byte 1 if it opened, else 0, and if it opened its 32 bytes and its bits; one byte 1 if
 // there is an order, else 0, and if there is one the order as numbers of the list.
+#![tactic(auto)]
 ghost use Rattle.std.specs.Prelude.{◌≡◌, IfOk, vec_items, string_bytes};
 ghost use Rattle.std.specs.Option.{option_map};
 ghost use Rattle.protocol.specs.Check.{checked, verdict, early_fault};

@@ -1,5 +1,7 @@
 // Why a step of a draw, or a protocol, is refused: one enum for all of them, each case with the number and the place
 // that are printed.
+#![tactic(auto)]
+
 ghost use Rattle.std.specs.Prelude.{◌≡◌};
 ghost use Rattle.refusals.specs.Numbered.{number, place};
 

@@ -1,5 +1,6 @@
 // repeat PROTOCOL: checks the protocol of a draw, and prints what the draw printed at its end, or why the protocol is
 // refused. The status is 0 if it is accepted, else 1.
+#![tactic(auto)]
 use anyhow::anyhow;
 use protocol::repeat_text;
 use std::{env, fs};

@@ -1,6 +1,7 @@
 // report PROTOCOL [--find NAME]: checks the protocol of a draw, and tells it in words for people: the places with their
 // names, who opened and who was left out, the list's hash, the bits used; or the place of one name alone. The status is 0 if
 // the protocol is accepted and the name has a place, else 1.
+#![tactic(auto)]
 use anyhow::anyhow;
 use output::between;
 use report_text::{put_place, put_report};

@@ -1,4 +1,5 @@
 // What is told of a protocol in words for people: who is at which place, who opened, and what it was drawn from.
+#![tactic(auto)]
 mod order;
 mod parties;
 mod refused;

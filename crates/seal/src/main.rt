@@ -1,5 +1,6 @@
 // seal STEPS PARTY OPENING: the seal of a party's opening, for the list that is closed in a file of steps. It prints the
 // party's number, the seal in hex, and until when to keep the opening secret. The status is 0 if there is a seal, else 1.
+#![tactic(auto)]
 use anyhow::anyhow;
 use ceremony::Memory;
 use output::between;

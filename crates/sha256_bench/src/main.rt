@@ -1,5 +1,6 @@
 // Hashes messages one after another, to see how long it takes: COUNT of them, or 16, of SIZE bytes, 32 to 8,192, or 8,192.
 // Each but the first begins with the hash of the one before, so that none can be left out, and the last hash is printed.
+#![tactic(auto)]
 use std::env;
 
 const USAGE: &str = "usage: sha256_bench [COUNT [SIZE]], SIZE from 32 to 8192";

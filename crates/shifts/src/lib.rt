@@ -1,4 +1,6 @@
 // Numbers of a row moved by a place, to make room for one more.
+#![tactic(auto)]
+
 ghost use Rattle.std.specs.Prelude.{◌++◌, ◌≡◌, ◌-◌, length, take};
 
 // Moves each number but the last a place back. The first stays, and then stands twice.

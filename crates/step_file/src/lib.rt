@@ -1,4 +1,6 @@
 // A file of steps, read one step at a time: one byte for its kind, two bytes of length, low byte first, and its bytes.
+#![tactic(auto)]
+
 ghost use Rattle.std.specs.Prelude.{◌≡◌};
 ghost use Rattle.step_file.specs.Laws.{ReadAgain};
 ghost use Rattle.step_file.specs.Reading.{reading, step_at};

@@ -1,5 +1,6 @@
 // steps TEXT STEPS: reads a text for people, and writes the file of steps that it says.
 // steps --show STEPS: prints a file of steps as such a text.
+#![tactic(auto)]
 use anyhow::anyhow;
 use names_text::is_text;
 use notation::{BadLine, NamedFile, next_file, put_bad_line, read, show};

@@ -1,5 +1,7 @@
 // The sum of the rows of bytes that the parties put in: exclusive-or, place by place.
 // Each row is added to the sum where it stands, so that no more than one row is ever held beside it.
+#![tactic(auto)]
+
 ghost use Rattle.std.specs.Prelude.{◌≡◌};
 ghost use Rattle.sum.specs.Laws.{AnyOrder, OneMore};
 ghost use Rattle.sum.specs.Sums.{xor_bytes};
