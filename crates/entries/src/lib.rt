@@ -4,6 +4,7 @@
 // beside the slots holds their numbers in the order of the list. So only numbers of two bytes move when a name comes
 // in, and its place is found by halving.
 #![tactic(auto)]
+
 ghost use Rattle.std.specs.Prelude.{◌≡◌, ℕ, ◌+◌, ◌*◌, ◌<◌, ◌≤◌, List, [], map, length, IfSome, IfOk, slice_index_or};
 ghost use Rattle.std.proofs.Math.Seq.{paste};
 ghost use Rattle.entries.specs.Rows.{name_in, packed, packed_rows, list_hash};

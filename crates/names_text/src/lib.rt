@@ -1,5 +1,6 @@
 // Whether the bytes of a name are text that people can read: characters in UTF-8, none of them a control character.
 #![tactic(auto)]
+
 ghost use Rattle.std.specs.Prelude.{◌≡◌, Decides};
 ghost use Rattle.names_text.specs.Laws.{Characters, OneLine};
 ghost use Rattle.names_text.specs.Text.{is_text, first_byte, next_byte};

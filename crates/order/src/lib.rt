@@ -2,6 +2,7 @@
 // A number below n is drawn: the name of that number is first, and is taken out; then a number below n - 1 among those left in their order, and
 // so on to the last. The order is told as numbers of the list, 0 to n - 1.
 #![tactic(auto)]
+
 ghost use Rattle.std.specs.Prelude.{◌≡◌, ◌-◌, ◌/◌, ◌^◌, ◌<◌, min, length, take, drop, if◌then◌else◌, nat_lt, slice_index};
 ghost use Rattle.order.specs.Drawings.{drawing_of, drawn_order, outcome, place_after, left_in};
 ghost use Rattle.order.specs.Laws.{EachOnce, ExactlyRead};

@@ -3,6 +3,7 @@
 // Each function writes from a place on, as far as the memory goes, and answers with the place behind what it wrote. So a
 // place before the end of the memory tells that all is there; a caller who finds it at the end lends more and begins anew.
 #![tactic(auto)]
+
 ghost use Rattle.std.specs.Prelude.{◌≡◌, ◌<◌, [], ◌∷◌, decimal};
 ghost use Rattle.output.specs.Hex.{hex, hex_digit};
 ghost use Rattle.output.specs.Laws.{Fitting, Told};

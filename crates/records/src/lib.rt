@@ -1,6 +1,7 @@
 // The laws of the parties' records, over the definitions that the contracts of `seals` and `sum` cite. No program calls
 // these functions: each is there so that its contract demands the proof of a law.
 #![tactic(auto)]
+
 ghost use Rattle.records.specs.Laws.{SealTaken, OpeningTaken, OpeningSummed, SealUnsummed};
 
 // A seal that is taken is the next party's, and changes no other record.

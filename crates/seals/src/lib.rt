@@ -4,6 +4,7 @@
 // In lent memory each party has a record, as a protocol has it: its seal, one byte that is 1 once it has opened, and
 // room for its opening.
 #![tactic(auto)]
+
 ghost use Rattle.std.specs.Prelude.{◌≡◌, ℕ, ◌+◌, ◌*◌, ◌^◌, ◌<◌, ◌≤◌, Bool, List, ◌∷◌, ◌++◌, length, take, drop};
 ghost use Rattle.std.proofs.Math.Seq.{paste};
 ghost use Rattle.std.specs.Str.{bytes_eq};

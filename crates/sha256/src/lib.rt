@@ -5,6 +5,7 @@
 // (specs/Absorbed.antt), and proofs/Laws.antt has what a caller cites: that a hasher ends with `sha256` of all the parts,
 // and that a hash is 32 bytes.
 #![tactic(auto)]
+
 ghost use Rattle.std.specs.Prelude.{◌≡◌};
 ghost use Rattle.sha256.specs.Sha256.{sha256};
 

@@ -1,5 +1,6 @@
 // The lines that the programs print.
 #![tactic(auto)]
+
 ghost use Rattle.std.specs.Prelude.{◌≡◌, cond, List, ◌++◌, is_ok, IfOk, string_bytes, codes, decimal, OnOk};
 ghost use Rattle.std.specs.Option.{option_map};
 ghost use Rattle.texts.specs.Laws.{OrderTold, SummaryTold};

@@ -2,6 +2,7 @@
 // Bits are read byte by byte, the highest of a byte first. With w the least number with n at most 2^w, w bits are read as a number, the first
 // one the highest; a number not below n is thrown away, and w bits are read again.
 #![tactic(auto)]
+
 ghost use Rattle.std.specs.Prelude.{◌≡◌, ◌+◌, ◌-◌, ◌*◌, ◌^◌, ◌<◌, ◌≤◌, length, drop, IfSome, slice_index};
 ghost use Rattle.uniform.specs.Bits.{bits};
 ghost use Rattle.uniform.specs.Draws.{width, number, drawn_at};

@@ -21,7 +21,7 @@ loop-slot-init c = parts_none c.new-hasher.result c.new-hasher.ensures
 pub loop-slot-preserved : goal.loop-slot-preserved
 loop-slot-preserved c =
     parts_more _ _ _ _ (parts_more _ _ _ _ c.loop-slot.invariant c.update.ensures) c.update-in-loop-slot.ensures
-    ∙ ap (absorbed fresh) (one_more c.args.slots.now c.args.numbers.now c.name-in-name.result.now c.loop-slot.slot-index c.loop-slot-test.true c.name-in-name.ensures.is)
+    ∙ ap (absorbed fresh) (one_more c.args.slots.now c.args.numbers.now c.name_in-name.result.now c.loop-slot.slot-index c.loop-slot-test.true c.name_in-name.ensures.is)
 
 pub returns : goal.returns
 returns c =

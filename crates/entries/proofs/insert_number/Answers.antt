@@ -11,4 +11,4 @@ returns c =
     let at = c.args.at in
     let part : List ℕ = take (count + 1 - at) (drop at index) in
     let long = length-take-le (count + 1 - at) (drop at index) (omega (arith, length-drop at index)) in
-    put_in index _ count at c.requires.within c.requires.room part refl (other_first part c.move-back.new.row count (omega (arith, long)) c.move-back.ensures)
+    put_in index _ count at c.requires.within c.requires.room part refl (other_first part c.move_back.new.row count (omega (arith, long)) c.move_back.ensures)

@@ -6,5 +6,5 @@ use Rattle.entries.proofs.list_hash.Goals as goal
 
 pub returns : goal.returns
 returns c =
-    c.hash-names.ensures
+    c.hash_names.ensures
     ∙ ap (λ (z : List ℕ). sha256 (packed_rows (map (name_in c.args.slots.now) z))) (sym (take_cut c.args.count (c.min-kept.result - 0) c.args.index.now (omega arith)))

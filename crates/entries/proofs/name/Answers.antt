@@ -11,4 +11,4 @@ returns-then-number-index c =
 
 pub returns : goal.returns
 returns c =
-    c.name-in.ensures.is ∙ sym (get_or-map (name_in c.args.slots.now) c.args.index.now c.args.number 0 [] c.if-number-index.false)
+    c.name_in.ensures.is ∙ sym (get_or-map (name_in c.args.slots.now) c.args.index.now c.args.number 0 [] c.if-number-index.false)

@@ -15,28 +15,28 @@ returns-in-default t c =
     (omega arith) (omega (arith, length_bits c.args.bytes.now)) c.in-default.ensures.is in
     record { is = a.0; after = a.1 }
 
-pub returns-in-default-draw-rest : goal.returns-in-default-draw-rest
-returns-in-default-draw-rest t c =
-    let h = c.in-default-draw-rest.ensures in
+pub returns-in-default-draw_rest : goal.returns-in-default-draw_rest
+returns-in-default-draw_rest t c =
+    let h = c.in-default-draw_rest.ensures in
     let n = length c.args.order.now in
-    let first = c.take-out-name.result.1 in
-    let row = c.take-out-name.new.names in
+    let first = c.take_out-name.result.1 in
+    let row = c.take_out-name.new.names in
     let e : first + n - 1 - first ≡ length c.args.left.now - 1 = omega arith in
-    let is_left = ap (λ j. take j (drop first row)) e ∙ c.take-out-name.ensures.after in
+    let is_left = ap (λ j. take j (drop first row)) e ∙ c.take_out-name.ensures.after in
     let a = later_out (bits c.args.bytes.now) c.args.left.now (take (first + n - 1 - first) (drop first row)) c.args.order.now c.args.from c.in-Some.k c.in-Some.next
     c.requires.each (omega arith) (omega (arith, length_bits c.args.bytes.now)) c.in-Some.ensures.is is_left
-    c.draw-rest.new.order (h.is, h.after) in
+    c.draw_rest.new.order (h.is, h.after) in
     record { is = a.0; after = a.1 }
 
 pub returns : goal.returns
 returns t c =
-    let h = c.in-Some-draw-rest.ensures in
+    let h = c.in-Some-draw_rest.ensures in
     let n = length c.args.order.now in
-    let first = c.take-out-name.result.1 in
-    let row = c.take-out-name.new.names in
+    let first = c.take_out-name.result.1 in
+    let row = c.take_out-name.new.names in
     let e : first + n - 1 - first ≡ length c.args.left.now - 1 = omega arith in
-    let is_left = ap (λ j. take j (drop first row)) e ∙ c.take-out-name.ensures.after in
+    let is_left = ap (λ j. take j (drop first row)) e ∙ c.take_out-name.ensures.after in
     let a = later_drawn (bits c.args.bytes.now) c.args.left.now (take (first + n - 1 - first) (drop first row)) c.args.order.now c.args.from c.in-Some.k c.in-Some.next
     c.requires.each (omega arith) (omega (arith, length_bits c.args.bytes.now)) c.in-Some.ensures.is is_left
-    c.draw-rest.new.order c.in-Some-draw-rest.end c.take-out-name.result.0 c.take-out-name.ensures.is (h.is, h.after) in
+    c.draw_rest.new.order c.in-Some-draw_rest.end c.take_out-name.result.0 c.take_out-name.ensures.is (h.is, h.after) in
     record { is = a.0; after = a.1 }

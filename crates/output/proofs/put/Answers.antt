@@ -13,6 +13,6 @@ returns c =
     let n = c.min-size.result in
     let bytes = c.args.bytes.now in
     let all : n - 0 ≡ n = omega arith in
-    let copied = put_mid-paste at (at + n - at) c.args.out.now c.copy-from-slice.new.self (take n bytes) n (c.copy-from-slice.ensures.after ∙ ap (λ (k : ℕ). take k bytes) all) (omega arith)
+    let copied = put_mid-paste at (at + n - at) c.args.out.now c.copy_from_slice.new.self (take n bytes) n (c.copy_from_slice.ensures.after ∙ ap (λ (k : ℕ). take k bytes) all) (omega arith)
     (sym (length-take-le n bytes (omega arith))) in
     ap (λ (z : List ℕ). (z, at + n)) copied ∙ sym (put_front c.args.out.now at bytes n (omega arith) c.min-size.ensures)

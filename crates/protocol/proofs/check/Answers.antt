@@ -11,11 +11,11 @@ returns-in-Some c =
     let v = verdict_early bytes c.in-Some.why c.in-Some.ensures in
     record { is = v; drawn = accepts_drawn bytes _ v; only = accepts_only_drawn bytes _ (λ i. omega (arith, c.type-inv.protocol i)) v }
 
-pub returns-in-Some-order-fault : goal.returns-in-Some-order-fault
-returns-in-Some-order-fault c =
+pub returns-in-Some-order_fault : goal.returns-in-Some-order_fault
+returns-in-Some-order_fault c =
     let bytes = c.args.protocol.now in
     let v =
-    verdict_late bytes c.in-default.ensures (option_map vec_items c.in-ok-order.order) c.in-ok-order.ensures.is c.in-Some-order-fault.at c.in-Some-order-fault.ensures in
+    verdict_late bytes c.in-default.ensures (option_map vec_items c.in-ok-order.order) c.in-ok-order.ensures.is c.in-Some-order_fault.at c.in-Some-order_fault.ensures in
     record { is = v; drawn = accepts_drawn bytes _ v; only = accepts_only_drawn bytes _ (λ i. omega (arith, c.type-inv.protocol i)) v }
 
 pub returns : goal.returns
@@ -24,5 +24,5 @@ returns c =
     let laid = c.of-layout.ensures in
     let v =
     verdict_accepted bytes c.in-default.ensures (option_map vec_items c.in-ok-order.order) c.in-ok-order.ensures.is
-    c.of-layout.result.names c.of-layout.result.parties c.opened-count-opened.result c.in-default-order-fault.ensures laid.names laid.parties c.opened-count-opened.ensures in
+    c.of-layout.result.names c.of-layout.result.parties c.opened_count-opened.result c.in-default-order_fault.ensures laid.names laid.parties c.opened_count-opened.ensures in
     record { is = v; drawn = accepts_drawn bytes _ v; only = accepts_only_drawn bytes _ (λ i. omega (arith, c.type-inv.protocol i)) v }

@@ -6,8 +6,8 @@ use Rattle.seals.specs.Steps.{most_parties}
 use Rattle.seal_text.specs.Seals.{told_list}
 use Rattle.seal_text.proofs.put_seal.Goals as goal
 
-pub returns-then-party-ge-MOST-PARTIES : goal.returns-then-party-ge-MOST-PARTIES
-returns-then-party-ge-MOST-PARTIES c =
+pub returns-then-party-ge-MOST_PARTIES : goal.returns-then-party-ge-MOST_PARTIES
+returns-then-party-ge-MOST_PARTIES c =
     let k = c.args.party in
     let none = codes "a party has a number from 0 to 254\n" in
     let listed = told_list k c.args.opening.now (closed_list (state c.args.draw.now)) in

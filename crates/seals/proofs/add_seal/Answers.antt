@@ -22,9 +22,9 @@ returns c =
     let seals = c.args.seals.now in
     let x = c.args.seal.now in
     let at : ℕ = record_size c.args.length * c.args.parties in
-    let f = taken seals x c.args.length c.args.parties (omega arith) (λ e. omega arith) (omega (arith, c.record-at.ensures)) in
-    let h : c.record-at-at.result + 32 < length seals = search rules in
-    let w = marked seals x c.write.new.seals at c.record-at-at.result c.write.ensures c.record-at-at.ensures (omega arith) h in
+    let f = taken seals x c.args.length c.args.parties (omega arith) (λ e. omega arith) (omega (arith, c.record_at.ensures)) in
+    let h : c.record_at-at.result + 32 < length seals = search rules in
+    let w = marked seals x c.write.new.seals at c.record_at-at.result c.write.ensures c.record_at-at.ensures (omega arith) h in
     record {
       answer = ap (λ (z : Result ℕ Refusal). (sealed_at seals c.args.parties x z).answer) (sym f);
       seals = w ∙ ap (λ (z : Result ℕ Refusal). (sealed_at seals c.args.parties x z).seals) (sym f);

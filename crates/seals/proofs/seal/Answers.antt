@@ -14,4 +14,4 @@ returns c =
     let e = parts_more _ _ _ c.update-3.new.self d c.update-3.ensures in
     let f = parts_more _ _ _ c.update-4.new.self e c.update-4.ensures in
     parts_hash _ c.finish.result _ f c.finish.ensures
-    ∙ ap sha256 (split_message c.args.context.now c.args.opening.now c.split-at.result.0.now c.split-at.result.1.now c.args.party c.min.result c.min.ensures c.split-at.ensures.front c.split-at.ensures.back)
+    ∙ ap sha256 (split_message c.args.context.now c.args.opening.now c.split_at.result.0.now c.split_at.result.1.now c.args.party c.min.result c.min.ensures c.split_at.ensures.front c.split_at.ensures.back)

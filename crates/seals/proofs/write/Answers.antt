@@ -5,4 +5,4 @@ use Rattle.seals.proofs.write.Goals as goal
 pub returns : goal.returns
 returns c =
     let bytes = c.args.bytes.now in
-    put_mid-paste c.args.at (c.args.at + length bytes - c.args.at) c.args.seals.now c.copy-from-slice.new.self bytes (length bytes) c.copy-from-slice.ensures.after (omega arith) refl
+    put_mid-paste c.args.at (c.args.at + length bytes - c.args.at) c.args.seals.now c.copy_from_slice.new.self bytes (length bytes) c.copy_from_slice.ensures.after (omega arith) refl

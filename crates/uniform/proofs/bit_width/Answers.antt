@@ -5,4 +5,4 @@ use Rattle.uniform.proofs.Widths.{width_counted}
 
 pub returns : goal.returns
 returns c =
-    record { is = ap (λ x. 16 - count_leading_zeros 16 x) c.saturating-sub.ensures ∙ width_counted c.args.n (omega arith); small = omega arith }
+    record { is = ap (λ x. 16 - count_leading_zeros 16 x) c.saturating_sub.ensures ∙ width_counted c.args.n (omega arith); small = omega arith }

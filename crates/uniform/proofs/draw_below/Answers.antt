@@ -28,10 +28,10 @@ returns-then-value-n c =
     let n = length_bits c.args.bytes.now in
     let i = c.loop-value.invariant in
     let place = c.loop-value.place in
-    let w = c.bit-width-w.result in
+    let w = c.bit_width-w.result in
     let is = answers_got all c.args.from c.args.n c.read-value.result (place + w) (omega arith)
     (sym i.2.2
-    ∙ turn_got c.args.n w place c.read-value.result all c.bit-width-w.ensures.is c.read-value.ensures (omega arith) i.2.0 (omega arith) (omega arith))
+    ∙ turn_got c.args.n w place c.read-value.result all c.bit_width-w.ensures.is c.read-value.ensures (omega arith) i.2.0 (omega arith) (omega arith))
     (omega arith) (omega arith) in
     record { is = is; below = omega arith }
 
@@ -41,8 +41,8 @@ loop-value-smaller c =
     let n = length_bits c.args.bytes.now in
     omega (
       arith,
-      turn_reads c.args.n c.bit-width-w.result c.loop-value.place c.read-value.result all
-          c.bit-width-w.ensures.is c.read-value.ensures (omega arith) (omega arith) (omega arith),
+      turn_reads c.args.n c.bit_width-w.result c.loop-value.place c.read-value.result all
+          c.bit_width-w.ensures.is c.read-value.ensures (omega arith) (omega arith) (omega arith),
     )
 
 pub loop-value-preserved : goal.loop-value-preserved
@@ -50,8 +50,8 @@ loop-value-preserved c =
     let all = bits c.args.bytes.now in
     let n = length_bits c.args.bytes.now in
     let i = c.loop-value.invariant in
-    let g = turn_again c.args.n c.bit-width-w.result c.loop-value.place c.read-value.result all
-    c.bit-width-w.ensures.is c.read-value.ensures (omega arith) i.2.0 _ i.2.2 (omega arith) (omega arith) (omega arith) in
+    let g = turn_again c.args.n c.bit_width-w.result c.loop-value.place c.read-value.result all
+    c.bit_width-w.ensures.is c.read-value.ensures (omega arith) i.2.0 _ i.2.2 (omega arith) (omega arith) (omega arith) in
     (omega arith, omega arith, (g.0, omega arith, g.2))
 
 pub returns : goal.returns
@@ -60,5 +60,5 @@ returns c =
     let n = length_bits c.args.bytes.now in
     let i = c.loop-value.invariant in
     let is = answers_out all c.args.from c.args.n
-    (sym i.2.2 ∙ turn_out i.2.0 c.args.n c.bit-width-w.result c.loop-value.place all c.bit-width-w.ensures.is (omega arith)) in
+    (sym i.2.2 ∙ turn_out i.2.0 c.args.n c.bit_width-w.result c.loop-value.place all c.bit_width-w.ensures.is (omega arith)) in
     record { is = is; below = tt }

@@ -3,6 +3,6 @@ use Rattle.uniform.proofs.Reading.{read_is}
 
 pub returns : goal.returns
 returns c =
-    read_is c.args.bytes.now c.args.place c.args.w c.byte-at.result c.byte-at-2.result c.byte-at-3.result
-    c.byte-at.ensures.is c.byte-at-2.ensures.is c.byte-at-3.ensures.is
-    c.byte-at.ensures.small c.byte-at-2.ensures.small c.byte-at-3.ensures.small c.requires.few c.requires.room
+    read_is c.args.bytes.now c.args.place c.args.w c.byte_at.result c.byte_at-2.result c.byte_at-3.result
+    c.byte_at.ensures.is c.byte_at-2.ensures.is c.byte_at-3.ensures.is
+    c.byte_at.ensures.small c.byte_at-2.ensures.small c.byte_at-3.ensures.small c.requires.few c.requires.room

@@ -12,9 +12,9 @@ returns c =
     let e = drawn_front n _ len bits order c.requires.places (omega arith) refl in
     let z : n - 0 ≡ n = omega arith in
     record {
-      is = c.draw-order.ensures.is ∙ ap outcome e;
+      is = c.draw_order.ensures.is ∙ ap outcome e;
       after =
-          ap (λ (x : List ℕ). x ++ drop (n - 0) order) (c.draw-order.ensures.after ∙ ap (λ (d : Drawing). left_in d (take (n - 0) order)) e)
+          ap (λ (x : List ℕ). x ++ drop (n - 0) order) (c.draw_order.ensures.after ∙ ap (λ (d : Drawing). left_in d (take (n - 0) order)) e)
           ∙ (ap (λ (j : ℕ). left_in (drawn_order n (take len bits) 0) (take j order) ++ drop j order) z
           ∙ left_front n (take len bits) order c.requires.places);
     }

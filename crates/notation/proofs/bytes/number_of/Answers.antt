@@ -10,8 +10,8 @@ loop-digit-init c = (refl, omega arith)
 
 pub loop-digit-preserved : goal.loop-digit-preserved
 loop-digit-preserved c = (
-  number_more c.args.digits.now c.loop-digit.digit-index c.loop-digit.so_far c.loop-digit.invariant.0 c.loop-digit-test.true c.digit-more-so-far.ensures.is,
-  c.digit-more-so-far.ensures.small,
+  number_more c.args.digits.now c.loop-digit.digit-index c.loop-digit.so_far c.loop-digit.invariant.0 c.loop-digit-test.true c.digit_more-so_far.ensures.is,
+  c.digit_more-so_far.ensures.small,
 )
 
 pub returns : goal.returns

@@ -9,5 +9,5 @@ returns c =
     let n = c.args.bad.line in
     let why = sentence c.args.bad.fault in
     put_then (c.args.out.now, c.args.at) (codes "line ") (decimal n ++ (codes ": " ++ why)) c.put-number.ensures
-    (put_then _ (decimal n) (codes ": " ++ why) c.put-decimal-colon.ensures
+    (put_then _ (decimal n) (codes ": " ++ why) c.put_decimal-colon.ensures
     (put_then _ (codes ": ") why c.put-why.ensures (c.put.ensures ∙ ap (put (c.put-why.new.out, c.put-why.result)) c.words.ensures)))

@@ -7,7 +7,7 @@ loop-i-init c = bytes_none (c.args.out.now, c.args.at) c.args.digits.now
 
 pub loop-i-preserved : goal.loop-i-preserved
 loop-i-preserved c =
-    bytes_more (c.args.out.now, c.args.at) c.args.digits.now c.loop-i.i c.loop-i.invariant (omega arith) c.pair-value.ensures c.put-byte-next.ensures
+    bytes_more (c.args.out.now, c.args.at) c.args.digits.now c.loop-i.i c.loop-i.invariant (omega arith) c.pair_value.ensures c.put_byte-next.ensures
 
 pub returns : goal.returns
 returns c = bytes_all (c.args.out.now, c.args.at) c.args.digits.now c.loop-i.i c.loop-i.invariant (omega arith)

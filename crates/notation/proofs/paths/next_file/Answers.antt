@@ -9,36 +9,36 @@ use Rattle.notation.proofs.Places.{place_within}
 use Rattle.notation.proofs.paths.next_file.Goals as goal
 
 pub overflow-add-next : goal.overflow-add-next
-overflow-add-next c = omega (arith, place_within 10 c.behind-rest.result.now, ap length c.behind-rest.ensures, length-drop c.loop-from.from c.args.text.now, c.place-of-size.ensures)
+overflow-add-next c = omega (arith, place_within 10 c.behind-rest.result.now, ap length c.behind-rest.ensures, length-drop c.loop-from.from c.args.text.now, c.place_of-size.ensures)
 
 pub overflow-add-next-in-loop-from : goal.overflow-add-next-in-loop-from
-overflow-add-next-in-loop-from c = omega (arith, place_within 10 c.behind-rest.result.now, ap length c.behind-rest.ensures, length-drop c.loop-from.from c.args.text.now, c.place-of-size.ensures)
+overflow-add-next-in-loop-from c = omega (arith, place_within 10 c.behind-rest.result.now, ap length c.behind-rest.ensures, length-drop c.loop-from.from c.args.text.now, c.place_of-size.ensures)
 
 pub returns-in-File : goal.returns-in-File
 returns-in-File c =
     let text = c.args.text.now in
     let from = c.loop-from.from in
-    let line = c.without-return-line.result.now in
-    let is_line = c.without-return-line.ensures ∙ ap without_return c.front.ensures in
+    let line = c.without_return-line.result.now in
+    let is_line = c.without_return-line.ensures ∙ ap without_return c.front.ensures in
     let size = place_within 10 c.behind-rest.result.now in
-    let short : c.place-of-size.result ≤ length c.behind-rest.result.now = omega (arith, c.place-of-size.ensures, size) in
+    let short : c.place_of-size.result ≤ length c.behind-rest.result.now = omega (arith, c.place_of-size.ensures, size) in
     let path =
-    path_there text from c.behind-rest.result.now line c.place-of-size.result c.behind-rest.ensures short is_line c.in-File.party c.saturating-sub.result c.in-File.path.now
-    c.in-File.ensures c.saturating-sub.ensures in
-    let within = line_within text from c.behind-rest.result.now line c.place-of-size.result c.behind-rest.ensures short is_line in
+    path_there text from c.behind-rest.result.now line c.place_of-size.result c.behind-rest.ensures short is_line c.in-File.party c.saturating_sub.result c.in-File.path.now
+    c.in-File.ensures c.saturating_sub.ensures in
+    let within = line_within text from c.behind-rest.result.now line c.place_of-size.result c.behind-rest.ensures short is_line in
     record {
       is =
-          named_here text from (next_named text c.args.at) c.loop-from.invariant c.loop-from-test.true c.behind-rest.result.now line c.parse.result c.place-of-size.result
-          c.behind-rest.ensures c.place-of-size.ensures is_line c.parse.ensures c.in-File.party c.saturating-sub.result c.in-File.path.now (ap meant (sym c.in-File.is))
-          c.saturating-sub.ensures;
+          named_here text from (next_named text c.args.at) c.loop-from.invariant c.loop-from-test.true c.behind-rest.result.now line c.parse.result c.place_of-size.result
+          c.behind-rest.ensures c.place_of-size.ensures is_line c.parse.ensures c.in-File.party c.saturating_sub.result c.in-File.path.now (ap meant (sym c.in-File.is))
+          c.saturating_sub.ensures;
       there = (path.0, omega (arith, within, ap length c.behind-rest.ensures, length-drop from text, c.loop-from-test.true), c.in-File.party, line, path.1);
     }
 
 pub loop-from-preserved : goal.loop-from-preserved
 loop-from-preserved c =
     named_more c.args.text.now c.loop-from.from (next_named c.args.text.now c.args.at) c.loop-from.invariant c.loop-from-test.true c.behind-rest.result.now
-    c.without-return-line.result.now c.parse.result c.place-of-size.result c.behind-rest.ensures c.place-of-size.ensures
-    (c.without-return-line.ensures ∙ ap without_return c.front.ensures) c.parse.ensures c.in-default.not-File
+    c.without_return-line.result.now c.parse.result c.place_of-size.result c.behind-rest.ensures c.place_of-size.ensures
+    (c.without_return-line.ensures ∙ ap without_return c.front.ensures) c.parse.ensures c.in-default.not-File
 
 pub returns : goal.returns
 returns c =

@@ -16,29 +16,29 @@ overflow-add-result c = omega (arith, c.loop-at.invariant.3)
 pub returns-in-Bad : goal.returns-in-Bad
 returns-in-Bad c =
     steps_bad c.args.text.now c.args.files.now c.args.out.now c.loop-at.out c.loop-at.place c.loop-at.at c.loop-at.done c.loop-at.file c.loop-at.invariant
-    c.loop-at-test.true c.behind-rest.result.now c.without-return.result.now c.fill-next.result.0 c.place-of-end.result c.fill-next.result.1 c.behind-rest.ensures
-    c.place-of-end.ensures (c.without-return.ensures ∙ ap without_return c.front.ensures) (c.fill-next.ensures ∙ ap (filled c.args.files.now c.loop-at.file) c.parse.ensures)
+    c.loop-at-test.true c.behind-rest.result.now c.without_return.result.now c.fill-next.result.0 c.place_of-end.result c.fill-next.result.1 c.behind-rest.ensures
+    c.place_of-end.ensures (c.without_return.ensures ∙ ap without_return c.front.ensures) (c.fill-next.ensures ∙ ap (filled c.args.files.now c.loop-at.file) c.parse.ensures)
     c.in-Bad.fault c.in-Bad.is
 
-pub put-line-place-requires : goal.put-line-place-requires
-put-line-place-requires c =
+pub put_line-place-requires : goal.put_line-place-requires
+put_line-place-requires c =
     subst (λ (z : Meaning × ℕ). size_of z.0 < 65536) (sym c.fill-next.ensures) (filled_short c.args.files.now c.loop-at.file (meant c.parse.result))
 
 pub overflow-add-done : goal.overflow-add-done
 overflow-add-done c = omega (arith, c.loop-at.invariant.3)
 
 pub overflow-add-at : goal.overflow-add-at
-overflow-add-at c = omega (arith, place_within 10 c.behind-rest.result.now, ap length c.behind-rest.ensures, length-drop c.loop-at.at c.args.text.now, c.place-of-end.ensures)
+overflow-add-at c = omega (arith, place_within 10 c.behind-rest.result.now, ap length c.behind-rest.ensures, length-drop c.loop-at.at c.args.text.now, c.place_of-end.ensures)
 
 pub overflow-add-at-in-loop-at : goal.overflow-add-at-in-loop-at
-overflow-add-at-in-loop-at c = omega (arith, place_within 10 c.behind-rest.result.now, ap length c.behind-rest.ensures, length-drop c.loop-at.at c.args.text.now, c.place-of-end.ensures)
+overflow-add-at-in-loop-at c = omega (arith, place_within 10 c.behind-rest.result.now, ap length c.behind-rest.ensures, length-drop c.loop-at.at c.args.text.now, c.place_of-end.ensures)
 
 pub loop-at-preserved : goal.loop-at-preserved
 loop-at-preserved c =
     steps_more c.args.text.now c.args.files.now c.args.out.now c.loop-at.out c.loop-at.place c.loop-at.at c.loop-at.done c.loop-at.file c.loop-at.invariant
-    c.loop-at-test.true c.behind-rest.result.now c.without-return.result.now c.fill-next.result.0 c.place-of-end.result c.fill-next.result.1 c.behind-rest.ensures
-    c.place-of-end.ensures (c.without-return.ensures ∙ ap without_return c.front.ensures) (c.fill-next.ensures ∙ ap (filled c.args.files.now c.loop-at.file) c.parse.ensures)
-    c.put-line-place.new.out c.put-line-place.result c.in-default.not-Bad c.put-line-place.ensures
+    c.loop-at-test.true c.behind-rest.result.now c.without_return.result.now c.fill-next.result.0 c.place_of-end.result c.fill-next.result.1 c.behind-rest.ensures
+    c.place_of-end.ensures (c.without_return.ensures ∙ ap without_return c.front.ensures) (c.fill-next.ensures ∙ ap (filled c.args.files.now c.loop-at.file) c.parse.ensures)
+    c.put_line-place.new.out c.put_line-place.result c.in-default.not-Bad c.put_line-place.ensures
 
 pub returns : goal.returns
 returns c = steps_all c.args.text.now c.args.files.now c.args.out.now c.loop-at.out c.loop-at.place c.loop-at.at c.loop-at.done c.loop-at.file c.loop-at.invariant c.loop-at-test.false

@@ -14,7 +14,7 @@ returns-in-Cut c = lines_cut c.args.file.now c.args.out.now c.loop-kind.out c.lo
 pub loop-kind-preserved : goal.loop-kind-preserved
 loop-kind-preserved c =
     lines_more c.args.file.now c.args.out.now c.loop-kind.out c.loop-kind.place c.loop-kind.at c.loop-kind.invariant c.in-Step.kind c.in-Step.next c.in-Step.bytes.now
-    c.in-Step.ensures c.put-line-place.new.out c.put-line-place.result c.put-line-place.ensures
+    c.in-Step.ensures c.put_line-place.new.out c.put_line-place.result c.put_line-place.ensures
 
 pub loop-kind-smaller : goal.loop-kind-smaller
 loop-kind-smaller c =

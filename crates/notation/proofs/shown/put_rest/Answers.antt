@@ -10,7 +10,7 @@ pub returns-in-StepHex : goal.returns-in-StepHex
 returns-in-StepHex c =
     let m : List ℕ × ℕ = (c.args.out.now, c.args.at) in
     at_form m c.args.kind c.args.bytes.now c.in-StepHex.is
-    (put_then m (hex (c.args.kind ∷ [])) (hex c.args.bytes.now) c.put-hex-next.ensures c.put-hex-in-StepHex.ensures
+    (put_then m (hex (c.args.kind ∷ [])) (hex c.args.bytes.now) c.put_hex-next.ensures c.put_hex-in-StepHex.ensures
     ∙ ap (put m) (sym (hex_append (c.args.kind ∷ []) c.args.bytes.now)))
 
 pub returns-in-CloseSeals : goal.returns-in-CloseSeals

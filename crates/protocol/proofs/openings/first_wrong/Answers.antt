@@ -10,13 +10,13 @@ pub loop-party-init : goal.loop-party-init
 loop-party-init c =
     (party_first c.args.bytes.now _ c.requires.first, omega arith, first_none (party_fault c.hash-hash.result c.args.bytes.now))
 
-pub returns-then-is-wrong : goal.returns-then-is-wrong
-returns-then-is-wrong c =
+pub returns-then-is_wrong : goal.returns-then-is_wrong
+returns-then-is_wrong c =
     let bytes = c.args.bytes.now in
     let hash = c.hash-hash.result in
     let i = c.loop-party.invariant in
     let h = hash_is bytes hash c.part.result.now c.args.layout.length_at c.hash-hash.ensures c.part.ensures c.requires.first in
-    let f = party_fault_is bytes hash c.loop-party.party c.loop-party.at c.args.layout.length c.is-wrong.result true i.0 c.requires.bits c.is-wrong.ensures c.if-is-wrong.true in
+    let f = party_fault_is bytes hash c.loop-party.party c.loop-party.at c.args.layout.length c.is_wrong.result true i.0 c.requires.bits c.is_wrong.ensures c.if-is_wrong.true in
     sym (first_found (party_fault hash bytes) c.loop-party.party (party_count bytes) c.loop-party.party (omega (arith, c.loop-party-test.true, c.requires.parties)) i.2 f)
     ∙ ap (λ (z : List ℕ). first_of (party_fault z bytes) (party_count bytes)) h
 
@@ -25,8 +25,8 @@ loop-party-preserved c =
     let bytes = c.args.bytes.now in
     let hash = c.hash-hash.result in
     let i = c.loop-party.invariant in
-    let f = party_fault_is bytes hash c.loop-party.party c.loop-party.at c.args.layout.length c.is-wrong.result false i.0 c.requires.bits c.is-wrong.ensures c.if-is-wrong.false in (
-      party_step bytes c.loop-party.at c.loop-party.party c.args.layout.length c.party-end-at.result i.0 c.requires.bits c.party-end-at.ensures.is,
+    let f = party_fault_is bytes hash c.loop-party.party c.loop-party.at c.args.layout.length c.is_wrong.result false i.0 c.requires.bits c.is_wrong.ensures c.if-is_wrong.false in (
+      party_step bytes c.loop-party.at c.loop-party.party c.args.layout.length c.party_end-at.result i.0 c.requires.bits c.party_end-at.ensures.is,
       omega arith,
       first_more (party_fault hash bytes) c.loop-party.party i.2 f,
     )

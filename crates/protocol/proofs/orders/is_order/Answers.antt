@@ -9,8 +9,8 @@ is_false : (t : Bool) → (t ≡ true → ⊥) → false ≡ t
 is_false true h = absurd (h refl)
 is_false false h = refl
 
-pub returns-then-word-at-number : goal.returns-then-word-at-number
-returns-then-word-at-number c =
+pub returns-then-word_at-number : goal.returns-then-word_at-number
+returns-then-word_at-number c =
     let bytes = c.args.bytes.now in
     let ns = c.args.order.now in
     let at = c.args.at in
@@ -19,8 +19,8 @@ returns-then-word-at-number c =
     is_false (bytes_eq (numbers_at bytes at (length ns)) ns)
     (λ t.
     let e = (bytes_eq-Decides (numbers_at bytes at (length ns)) ns).0 t in
-    c.if-word-at-number.true
-    (c.word-at.ensures ∙ (sym (get_or-map-range_with_len f 0 (length ns) k k 0 c.loop-k-test.true (omega arith)) ∙ ap (λ (z : List ℕ). get_or z k 0) e)))
+    c.if-word_at-number.true
+    (c.word_at.ensures ∙ (sym (get_or-map-range_with_len f 0 (length ns) k k 0 c.loop-k-test.true (omega arith)) ∙ ap (λ (z : List ℕ). get_or z k 0) e)))
 
 pub returns : goal.returns
 returns c =

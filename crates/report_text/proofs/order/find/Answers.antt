@@ -2,11 +2,11 @@ use Rattle.std.proofs.Common.{true, false, sym, ◌∙◌}
 use Rattle.report_text.proofs.Finding.{tested, nowhere}
 use Rattle.report_text.proofs.order.find.Goals as goal
 
-pub returns-then-is-name : goal.returns-then-is-name
-returns-then-is-name c = tested _ _ _ _ _ c.loop-k.invariant c.loop-k-test.true true (sym c.if-is-name.true ∙ c.is-name.ensures)
+pub returns-then-is_name : goal.returns-then-is_name
+returns-then-is_name c = tested _ _ _ _ _ c.loop-k.invariant c.loop-k-test.true true (sym c.if-is_name.true ∙ c.is_name.ensures)
 
 pub loop-k-preserved : goal.loop-k-preserved
-loop-k-preserved c = tested _ _ _ _ _ c.loop-k.invariant c.loop-k-test.true false (sym c.if-is-name.false ∙ c.is-name.ensures)
+loop-k-preserved c = tested _ _ _ _ _ c.loop-k.invariant c.loop-k-test.true false (sym c.if-is_name.false ∙ c.is_name.ensures)
 
 pub returns : goal.returns
 returns c = nowhere _ _ _ _ _ c.loop-k.invariant c.loop-k-test.false

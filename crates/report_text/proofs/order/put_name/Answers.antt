@@ -7,14 +7,14 @@ use Rattle.report_text.proofs.order.put_name.Goals as goal
 abbrev shown : List ℕ → Bool → List ℕ
 shown x b = cond b (codes ": " ++ (x ++ codes "\n")) (codes " in hex: " ++ (hex x ++ codes "\n"))
 
-pub returns-then-is-text : goal.returns-then-is-text
-returns-then-is-text c =
+pub returns-then-is_text : goal.returns-then-is_text
+returns-then-is_text c =
     let x = c.args.name.now in
-    put_then _ (codes ": ") _ c.put-name-at.ensures (put_then _ x _ c.put-name-end.ensures c.put.ensures)
-    ∙ ap (λ (b : Bool). put (c.args.out.now, c.args.at) (shown x b)) (sym c.if-is-text.true ∙ c.is-text.ensures.is)
+    put_then _ (codes ": ") _ c.put_name-at.ensures (put_then _ x _ c.put_name-end.ensures c.put.ensures)
+    ∙ ap (λ (b : Bool). put (c.args.out.now, c.args.at) (shown x b)) (sym c.if-is_text.true ∙ c.is_text.ensures.is)
 
 pub returns : goal.returns
 returns c =
     let x = c.args.name.now in
-    put_then _ (codes " in hex: ") _ c.put-hex-at.ensures (put_then _ (hex x) _ c.put-hex-hex-end.ensures c.put-2.ensures)
-    ∙ ap (λ (b : Bool). put (c.args.out.now, c.args.at) (shown x b)) (sym c.if-is-text.false ∙ c.is-text.ensures.is)
+    put_then _ (codes " in hex: ") _ c.put_hex-at.ensures (put_then _ (hex x) _ c.put_hex-hex_end.ensures c.put-2.ensures)
+    ∙ ap (λ (b : Bool). put (c.args.out.now, c.args.at) (shown x b)) (sym c.if-is_text.false ∙ c.is_text.ensures.is)

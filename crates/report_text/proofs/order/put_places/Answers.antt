@@ -13,7 +13,7 @@ loop-k-preserved c =
     let k = c.loop-k.k in
     let m : List ℕ × ℕ = (c.loop-k.out, c.loop-k.end) in
     put_turn m (place_line (k + 1) (name_of bytes (get_or ns k 0))) (place_lines bytes (k + 1 + 1) (drop (k + 1) ns))
-    (c.put-line-end.ensures ∙ ap (λ (x : List ℕ). put m (place_line (k + 1) x)) c.name.ensures) (at_drop_more (place_lines bytes (k + 1)) ns k 0 c.loop-k-test.true) c.loop-k.invariant
+    (c.put_line-end.ensures ∙ ap (λ (x : List ℕ). put m (place_line (k + 1) x)) c.name.ensures) (at_drop_more (place_lines bytes (k + 1)) ns k 0 c.loop-k-test.true) c.loop-k.invariant
 
 pub returns : goal.returns
 returns c = put_done _ (at_drop_all (place_lines c.args.protocol.now (c.loop-k.k + 1)) c.args.order.now c.loop-k.k c.loop-k-test.false) c.loop-k.invariant

@@ -3,8 +3,8 @@ use Rattle.output.proofs.Puts.{put_then}
 use Rattle.report_text.proofs.parties.put_counts.Goals as goal
 
 pub returns : goal.returns
-returns c = put_then _ (decimal c.args.names) _ c.put-decimal-names-end.ensures
-    (put_then _ (codes " names, ") _ c.put-parties-at.ensures
-    (put_then _ (decimal c.args.parties) _ c.put-decimal-parties-end.ensures
-    (put_then _ (codes " parties, ") _ c.put-opened-at.ensures
-    (put_then _ (decimal c.args.opened) _ c.put-decimal-opened-end.ensures c.put.ensures))))
+returns c = put_then _ (decimal c.args.names) _ c.put_decimal-names_end.ensures
+    (put_then _ (codes " names, ") _ c.put_parties-at.ensures
+    (put_then _ (decimal c.args.parties) _ c.put_decimal-parties_end.ensures
+    (put_then _ (codes " parties, ") _ c.put-opened_at.ensures
+    (put_then _ (decimal c.args.opened) _ c.put_decimal-opened_end.ensures c.put.ensures))))

@@ -12,4 +12,4 @@ pub loop-party-preserved : goal.loop-party-preserved
 loop-party-preserved c =
     let k = c.loop-party.party in
     let f = party_line c.args.protocol.now in
-    put_joined (λ (x : List ℕ). x) _ (map f (range_with_len 0 k)) (f k) c.loop-party.invariant c.put-party-end.ensures (map-range_with_len_more f 0 k k (omega arith))
+    put_joined (λ (x : List ℕ). x) _ (map f (range_with_len 0 k)) (f k) c.loop-party.invariant c.put_party-end.ensures (map-range_with_len_more f 0 k k (omega arith))

@@ -6,14 +6,14 @@ use Rattle.report_text.proofs.parties.put_party.Goals as goal
 abbrev line : ℕ → Bool → List ℕ
 line k b = codes "party " ++ (decimal k ++ cond b (codes " opened\n") (codes " left out\n"))
 
-pub returns-then-has-opened : goal.returns-then-has-opened
-returns-then-has-opened c =
+pub returns-then-has_opened : goal.returns-then-has_opened
+returns-then-has_opened c =
     let k = c.args.party in
-    put_then _ (codes "party ") _ c.put-party-at.ensures (put_then _ (decimal k) _ c.put-decimal-party-end.ensures c.put.ensures)
-    ∙ ap (λ (b : Bool). put (c.args.out.now, c.args.at) (line k b)) (sym c.if-has-opened.true ∙ c.has-opened.ensures)
+    put_then _ (codes "party ") _ c.put_party-at.ensures (put_then _ (decimal k) _ c.put_decimal-party_end.ensures c.put.ensures)
+    ∙ ap (λ (b : Bool). put (c.args.out.now, c.args.at) (line k b)) (sym c.if-has_opened.true ∙ c.has_opened.ensures)
 
 pub returns : goal.returns
 returns c =
     let k = c.args.party in
-    put_then _ (codes "party ") _ c.put-party-at.ensures (put_then _ (decimal k) _ c.put-decimal-party-end.ensures c.put-2.ensures)
-    ∙ ap (λ (b : Bool). put (c.args.out.now, c.args.at) (line k b)) (sym c.if-has-opened.false ∙ c.has-opened.ensures)
+    put_then _ (codes "party ") _ c.put_party-at.ensures (put_then _ (decimal k) _ c.put_decimal-party_end.ensures c.put-2.ensures)
+    ∙ ap (λ (b : Bool). put (c.args.out.now, c.args.at) (line k b)) (sym c.if-has_opened.false ∙ c.has_opened.ensures)

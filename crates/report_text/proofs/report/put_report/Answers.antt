@@ -13,15 +13,15 @@ returns-in-Accepted c =
     let bytes = c.args.protocol.now in
     let found = c.in-Accepted in
     let v = found.ensures.is in
-    let m : List ℕ × ℕ = (c.put-hash-hash-end.new.out, c.put-hash-hash-end.result) in
-    let used = c.bits-used.ensures ∙ (found.ensures.used ∙ ap (verdict-used bytes) (sym v)) in
-    let bits = c.put-bits-bits-end.ensures ∙ ap (λ (u : Option ℕ). put m (bits_line u (8 * bits_length bytes))) used in
+    let m : List ℕ × ℕ = (c.put_hash-hash_end.new.out, c.put_hash-hash_end.result) in
+    let used = c.bits_used.ensures ∙ (found.ensures.used ∙ ap (verdict-used bytes) (sym v)) in
+    let bits = c.put_bits-bits_end.ensures ∙ ap (λ (u : Option ℕ). put m (bits_line u (8 * bits_length bytes))) used in
     record {
       text =
-          put_then _ (counts_line found.names found.parties found.opened) _ c.put-counts-counts-end.ensures
-          (put_then _ (party_lines bytes found.parties) _ c.put-parties-parties-end.ensures
-          (put_then _ (hash_line bytes) _ c.put-hash-hash-end.ensures
-          (put_then m (bits_line (bits_read (drawing_of bytes)) (8 * bits_length bytes)) _ bits c.put-order.ensures)))
+          put_then _ (counts_line found.names found.parties found.opened) _ c.put_counts-counts_end.ensures
+          (put_then _ (party_lines bytes found.parties) _ c.put_parties-parties_end.ensures
+          (put_then _ (hash_line bytes) _ c.put_hash-hash_end.ensures
+          (put_then m (bits_line (bits_read (drawing_of bytes)) (8 * bits_length bytes)) _ bits c.put_order.ensures)))
           ∙ ap (λ (w : Verdict). put (c.args.out.now, c.args.at) (told bytes w)) v;
       accepted = ap is_accepted v;
     }

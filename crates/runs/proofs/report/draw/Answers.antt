@@ -5,6 +5,6 @@ use Rattle.runs.proofs.report.draw.Goals as goal
 pub returns : goal.returns
 returns c =
     whole_run _ _ c.args.file.now _ _ _ _ c.tell.result
-    (same_memory _ _ _ _ _ _ c.as-mut-slice.ensures.value c.as-mut-slice-2.ensures.value c.as-mut-slice-3.ensures.value c.as-mut-slice-4.ensures.value c.as-mut-slice-5.ensures.value
+    (same_memory _ _ _ _ _ _ c.as_mut_slice.ensures.value c.as_mut_slice-2.ensures.value c.as_mut_slice-3.ensures.value c.as_mut_slice-4.ensures.value c.as_mut_slice-5.ensures.value
     ∙ c.in-ok-room.ensures)
     c.begin.ensures c.new-refusals.ensures.bytes c.in-ok-last.ensures.state c.in-ok-last.ensures.cut c.in-ok-last.ensures.text c.tell.ensures

@@ -12,13 +12,13 @@ unfolding compressed
 returns c =
     let block : List ℕ = c.args.block.now in
     let s : State = c.args.s in
-    let begun : Underway block s 0 s c.first-words-w.result =
+    let begun : Underway block s 0 s c.first_words-w.result =
     record {
       turned = sym (rounds_none (schedule 48 block) s);
-      known = window_none block c.first-words-w.result c.first-words-w.ensures;
+      known = window_none block c.first_words-w.result c.first_words-w.ensures;
     }
     in
     c.add.ensures
     ∙ ap (λ (t : State). summed s t)
-    (c.last-rounds.ensures block s
-    (c.run-of-steps-c.ensures block s (c.run-of-steps-b.ensures block s (c.run-of-steps-a.ensures block s begun))))
+    (c.last_rounds.ensures block s
+    (c.run_of_steps-c.ensures block s (c.run_of_steps-b.ensures block s (c.run_of_steps-a.ensures block s begun))))

@@ -7,8 +7,8 @@ use Rattle.sha256.proofs.block.digest.Goals as goal
 
 pub loop-i-preserved : goal.loop-i-preserved
 loop-i-preserved c = (
-  bytes_more c.loop-i.out (words_of c.args.s) c.copy-from-slice.new.self c.loop-i.i _ (omega arith)
-      (omega arith) c.loop-i.invariant.0 (c.copy-from-slice.ensures.after ∙ c.to-be-bytes.ensures),
+  bytes_more c.loop-i.out (words_of c.args.s) c.copy_from_slice.new.self c.loop-i.i _ (omega arith)
+      (omega arith) c.loop-i.invariant.0 (c.copy_from_slice.ensures.after ∙ c.to_be_bytes.ensures),
   search (rules, places),
 )
 

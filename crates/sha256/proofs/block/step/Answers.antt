@@ -15,10 +15,10 @@ returns c = λ block start h.
     let word : get_or w (t % 16) 0 ≡ get_or ws t 0 = rw add-zero at (h.known 0 (omega arith)) in
     let size : length w ≡ 16 = search rules in
     let next : t + 1 ≡ 16 * c.args.run + (c.args.i + 1) = omega arith in
-    subst (λ (n : ℕ). Underway block start n c.turn-at-r.result (set w (bit_and t 15) c.next-word.result)) next
+    subst (λ (n : ℕ). Underway block start n c.turn_at-r.result (set w (bit_and t 15) c.next_word.result)) next
     (record {
-      turned = turned_more t ws start c.args.s c.turn-at-r.result (get_or w (t % 16) 0) h.turned word c.turn-at-r.ensures;
+      turned = turned_more t ws start c.args.s c.turn_at-r.result (get_or w (t % 16) 0) h.turned word c.turn_at-r.ensures;
       known =
-          window_more w ws t c.next-word.result (bit_and t 15) (and_mask t 4) size h.known
-          (c.next-word.ensures ws h.known ∙ schedule_word t block low);
+          window_more w ws t c.next_word.result (bit_and t 15) (and_mask t 4) size h.known
+          (c.next_word.ensures ws h.known ∙ schedule_word t block low);
     })

@@ -10,7 +10,7 @@ returns-then-end-eq64 c =
     let k : ℕ = was.total % 64 + length piece - was.total % 64 in
     let low : was.total < 2 ^ 64 = omega arith in
     let size : length was.pending ≡ 64 = search rules in
-    piece_whole was piece c.copy-from-slice.new.self k low size c.requires c.copy-from-slice.ensures.after (omega arith)
+    piece_whole was piece c.copy_from_slice.new.self k low size c.requires c.copy_from_slice.ensures.after (omega arith)
     c.compress-self.result c.if-end-eq64.true c.compress-self.ensures
 
 -- the piece leaves the block short
@@ -21,5 +21,5 @@ returns-else-end-eq64 c =
     let k : ℕ = was.total % 64 + length piece - was.total % 64 in
     let low : was.total < 2 ^ 64 = omega arith in
     let size : length was.pending ≡ 64 = search rules in
-    piece_short was piece c.copy-from-slice.new.self k low size c.requires c.copy-from-slice.ensures.after (omega arith)
+    piece_short was piece c.copy_from_slice.new.self k low size c.requires c.copy_from_slice.ensures.after (omega arith)
     c.if-end-eq64.false
