@@ -1,8 +1,5 @@
 -- One turn of the search by halving. Assumes nothing.
 use Rattle.std.proofs.Common.{◌≡◌, ℕ, zero, suc, ◌+◌, ◌-◌, ◌<◌, ◌≤◌, List, [], map, length, get_or, Some, None, Ordering, sym, refl, ap, ◌∙◌, arith}
-use Rattle.std.specs.Cmp.{nat_cmp_total}
-use Rattle.std.specs.Cmp.Lexicographic.{Lex, lex-says}
-use Rattle.std.specs.Ordering.{MatchOrdering}
 use Rattle.std.proofs.lemmas.List.{get_or-map}
 use Rattle.std.proofs.lemmas.Bool.{lt-ltb, le-ltb}
 use Rattle.entries.specs.Rows.{row_order, name_in}
@@ -28,11 +25,11 @@ module _ (ns : List (List ℕ)) (x : List ℕ) where
 -- the same by what `cmp` answers on the name in a slot
 pub compared : (slots numbers x row : List ℕ) (f low high : ℕ) (o : Ordering) → low < high → high ≤ length numbers → high - low ≤ f
     → row ≡ name_in slots (get_or numbers (middle low high) 0)
-    → Lex (λ (a b : ℕ) (k : Ordering). MatchOrdering k (a < b) (a ≡ b) (b < a)) row x o
+    → o ≡ row_order row x
     → (g : ℕ) × After (map (name_in slots) numbers) x f low high o g
 compared slots numbers x row f low high o l m h e k =
     let ns : List (List ℕ) = map (name_in slots) numbers in
     let p = halved ns x f low high l h in
     let s : row_order (get_or ns (middle low high) []) x ≡ o =
-    ap (λ (z : List ℕ). row_order z x) (get_or-map (name_in slots) numbers (middle low high) 0 [] (omega arith) ∙ sym e) ∙ sym (lex-says nat_cmp_total row x o k) in
+    ap (λ (z : List ℕ). row_order z x) (get_or-map (name_in slots) numbers (middle low high) 0 [] (omega arith) ∙ sym e) ∙ sym k in
     (p.0, (p.1.0, p.1.1 ∙ ap (λ (r : Ordering). ranked r (place_between p.0 (middle low high + 1) high ns x) None (place_between p.0 low (middle low high) ns x)) s))

@@ -3,7 +3,7 @@ use Rattle.std.specs.Prelude.{ℕ, ◌+◌, ◌*◌, List, ◌∷◌, map, lengt
 use Rattle.std.specs.declared.cmp.Ordering.{Ordering}
 use Rattle.sha256.specs.Sha256.{sha256}
 use Rattle.std.specs.List.{flat_map}
-use Rattle.std.specs.Cmp.{nat_cmp_total}
+use Rattle.std.specs.Ordering.{nat_cmp}
 use Rattle.std.specs.Cmp.Lexicographic.{slice_cmp}
 
 -- a name is a row of 1 to 64 bytes; a slot has room for one, after one byte of its length
@@ -19,7 +19,7 @@ most_names = 2000
 
 -- rows in order: by bytes, a shorter row before a longer one that begins with it
 abbrev pub row_order : List ℕ → List ℕ → Ordering
-row_order xs ys = slice_cmp nat_cmp_total xs ys
+row_order xs ys = slice_cmp nat_cmp xs ys
 
 -- a row after one byte of its length, and rows one after another
 abbrev pub packed : List ℕ → List ℕ

@@ -3,4 +3,4 @@ use Rattle.notation.proofs.Whole.{shown_read}
 use Rattle.notation.proofs.show.Goals as goal
 
 pub returns : goal.returns
-returns c = record { is = search rules; again = shown_read c.args.file.now (λ i. omega (arith, c.type-inv.file i)) }
+returns c = record { is = search rules; again = shown_read c.args.file.now (λ i. omega (arith, c.type_inv.file i)) }

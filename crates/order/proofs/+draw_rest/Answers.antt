@@ -9,15 +9,15 @@ returns-then-n-eq0 t c =
     let a = no_names (bits c.args.bytes.now) c.args.left.now c.args.order.now c.args.from c.requires.each (omega arith) in
     record { is = a.0; after = a.1 }
 
-pub returns-in-default : goal.returns-in-default
-returns-in-default t c =
+pub returns-in_default : goal.returns-in_default
+returns-in_default t c =
     let a = first_out (bits c.args.bytes.now) c.args.left.now c.args.order.now c.args.from c.requires.each
-    (omega arith) (omega (arith, length_bits c.args.bytes.now)) c.in-default.ensures.is in
+    (omega arith) (omega (arith, length_bits c.args.bytes.now)) c.in_default.ensures.is in
     record { is = a.0; after = a.1 }
 
-pub returns-in-default-draw_rest : goal.returns-in-default-draw_rest
-returns-in-default-draw_rest t c =
-    let h = c.in-default-draw_rest.ensures in
+pub returns-in_default-draw_rest : goal.returns-in_default-draw_rest
+returns-in_default-draw_rest t c =
+    let h = c.in_default-draw_rest.ensures in
     let n = length c.args.order.now in
     let first = c.take_out-name.result.1 in
     let row = c.take_out-name.new.names in

@@ -9,9 +9,9 @@ returns-then-bytes-ge-TOO_LONG c =
     let a = too_long (min (length c.args.order.now) 65535) c.args.bytes.now c.args.order.now c.args.from (omega arith) in
     record { is = a.0; after = a.1; once = each_once_holds _ _ _; exact = exactly_read_holds _ _ _ }
 
-pub returns-in-default : goal.returns-in-default
-returns-in-default c =
-    let h = c.in-default.ensures in
+pub returns-in_default : goal.returns-in_default
+returns-in_default c =
+    let h = c.in_default.ensures in
     let a = front_out c.args.bytes.now c.args.order.now c.number.new.names c.draw_rest.new.order c.args.from c.min-n.result _
     (omega arith) c.min-n.ensures c.number.ensures (omega arith) (h.is, h.after) in
     record { is = a.0; after = a.1; once = each_once_holds _ _ _; exact = exactly_read_holds _ _ _ }

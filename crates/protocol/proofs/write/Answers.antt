@@ -19,6 +19,6 @@ returns c =
     parts (vec_items c.new-out.result) (vec_items c.write_names.new.out) (vec_items c.write_word.new.out) (vec_items c.push.new.self) (vec_items c.write_parties.new.out) (vec_items c.write_order.new.out)
     (word (length names) ++ packed_rows names) (word c.args.length) (flat_map written_party (map party (range_with_len 0 c.args.parties))) (written_order (order_left c.args.outcome (take c.args.count c.args.order.now)))
     c.args.parties (length (map party (range_with_len 0 c.args.parties)))
-    c.new-out.ensures.items c.in-ok-write_names.ensures c.in-ok-write_word.ensures (pushed (c.args.parties ∷ []) refl c.in-ok-push.was c.push.ensures.items)
-    c.in-ok-write_parties.ensures c.in-ok-write_order.ensures (sym (length-map-range_with_len party 0 c.args.parties))
+    c.new-out.ensures.items c.in_ok-write_names.ensures c.in_ok-write_word.ensures (pushed (c.args.parties ∷ []) refl c.in_ok-push.was c.push.ensures.items)
+    c.in_ok-write_parties.ensures c.in_ok-write_order.ensures (sym (length-map-range_with_len party 0 c.args.parties))
     ∙ append_assoc (word (length names)) (packed_rows names) _

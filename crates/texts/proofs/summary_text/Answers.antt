@@ -8,5 +8,5 @@ joined none counted ordered all counts words end a b d e = e ∙ (ap (λ (z : Li
 
 pub returns : goal.returns
 returns c =
-    joined _ _ _ _ _ _ (codes "\n") c.new-text.ensures.bytes c.in-ok-add_counts.ensures c.in-ok-add_order.ensures
-    (pushed (codes "\n") refl c.in-ok-push_str.was c.push_str.ensures.bytes)
+    joined _ _ _ _ _ _ (codes "\n") c.new-text.ensures.bytes c.in_ok-add_counts.ensures c.in_ok-add_order.ensures
+    (pushed (codes "\n") refl c.in_ok-push_str.was c.push_str.ensures.bytes)

@@ -38,7 +38,7 @@ pub loop-from-preserved : goal.loop-from-preserved
 loop-from-preserved c =
     named_more c.args.text.now c.loop-from.from (next_named c.args.text.now c.args.at) c.loop-from.invariant c.loop-from-test.true c.behind-rest.result.now
     c.without_return-line.result.now c.parse.result c.place_of-size.result c.behind-rest.ensures c.place_of-size.ensures
-    (c.without_return-line.ensures ∙ ap without_return c.front.ensures) c.parse.ensures c.in-default.not-File
+    (c.without_return-line.ensures ∙ ap without_return c.front.ensures) c.parse.ensures c.in_default.not-File
 
 pub returns : goal.returns
 returns c =

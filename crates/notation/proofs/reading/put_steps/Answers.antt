@@ -38,7 +38,7 @@ loop-at-preserved c =
     steps_more c.args.text.now c.args.files.now c.args.out.now c.loop-at.out c.loop-at.place c.loop-at.at c.loop-at.done c.loop-at.file c.loop-at.invariant
     c.loop-at-test.true c.behind-rest.result.now c.without_return.result.now c.fill-next.result.0 c.place_of-end.result c.fill-next.result.1 c.behind-rest.ensures
     c.place_of-end.ensures (c.without_return.ensures ∙ ap without_return c.front.ensures) (c.fill-next.ensures ∙ ap (filled c.args.files.now c.loop-at.file) c.parse.ensures)
-    c.put_line-place.new.out c.put_line-place.result c.in-default.not-Bad c.put_line-place.ensures
+    c.put_line-place.new.out c.put_line-place.result c.in_default.not-Bad c.put_line-place.ensures
 
 pub returns : goal.returns
 returns c = steps_all c.args.text.now c.args.files.now c.args.out.now c.loop-at.out c.loop-at.place c.loop-at.at c.loop-at.done c.loop-at.file c.loop-at.invariant c.loop-at-test.false

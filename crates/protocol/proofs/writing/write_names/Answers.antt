@@ -16,7 +16,7 @@ short slots index row k typed h e =
 
 pub write_name-requires : goal.write_name-requires
 write_name-requires c =
-    short c.args.slots.now c.args.index.now c.name.result.now c.loop-number.number (λ i. omega (arith, c.type-inv.slots i)) (omega (arith, c.min-names.ensures)) c.name.ensures
+    short c.args.slots.now c.args.index.now c.name.result.now c.loop-number.number (λ i. omega (arith, c.type_inv.slots i)) (omega (arith, c.min-names.ensures)) c.name.ensures
 
 pub loop-number-preserved : goal.loop-number-preserved
 loop-number-preserved c =
@@ -27,7 +27,7 @@ loop-number-preserved c =
     let e = c.name.ensures ∙ get_or-map (name_in slots) index k 0 [] h in
     joined_on packed (vec_items c.write_word.new.out) (vec_items c.loop-number.out) (vec_items c.write_name.new.out)
     (map (name_in slots) (take k index)) (map (name_in slots) (take (k + 1) index)) (name_in slots (get_or index k 0))
-    c.loop-number.invariant (c.in-ok-write_name.ensures ∙ ap (λ (z : List ℕ). vec_items c.loop-number.out ++ packed z) e) (map_more (name_in slots) index k 0 h)
+    c.loop-number.invariant (c.in_ok-write_name.ensures ∙ ap (λ (z : List ℕ). vec_items c.loop-number.out ++ packed z) e) (map_more (name_in slots) index k 0 h)
 
 -- all names are written
 whole : (slots index out items : List ℕ) (count k n : ℕ) → n ≡ min (length index) count → k ≡ n → items ≡ (out ++ word n) ++ packed_rows (map (name_in slots) (take k index))
@@ -45,4 +45,4 @@ returns c =
     let slots = c.args.slots.now in
     let index = c.args.index.now in
     whole slots index (vec_items c.args.out.now) (vec_items c.loop-number.out) c.args.count c.loop-number.number c.min-names.result c.min-names.ensures (omega arith)
-    (c.loop-number.invariant ∙ ap (λ (z : List ℕ). z ++ packed_rows (map (name_in slots) (take c.loop-number.number index))) c.in-ok-write_word.ensures)
+    (c.loop-number.invariant ∙ ap (λ (z : List ℕ). z ++ packed_rows (map (name_in slots) (take c.loop-number.number index))) c.in_ok-write_word.ensures)

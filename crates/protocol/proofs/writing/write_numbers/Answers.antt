@@ -9,7 +9,7 @@ pub loop-number-preserved : goal.loop-number-preserved
 loop-number-preserved c =
     let ns = c.args.numbers.now in
     let i = c.loop-number.number-index in
-    joined_on word _ _ _ (take i ns) _ (get_or ns i 0) c.loop-number.invariant c.in-ok-write_word.ensures (take_more ns i 0 c.loop-number-test.true)
+    joined_on word _ _ _ (take i ns) _ (get_or ns i 0) c.loop-number.invariant c.in_ok-write_word.ensures (take_more ns i 0 c.loop-number-test.true)
 
 pub returns : goal.returns
 returns c =

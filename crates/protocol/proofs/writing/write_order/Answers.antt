@@ -11,8 +11,8 @@ pub returns : goal.returns
 returns c =
     let out = vec_items c.args.out.now in
     let order = c.args.order.now in
-    let a = pushed (1 ∷ []) refl c.in-ok-push-2.was c.push-2.ensures.items in
-    c.in-ok-write_numbers.ensures
+    let a = pushed (1 ∷ []) refl c.in_ok-push-2.was c.push-2.ensures.items in
+    c.in_ok-write_numbers.ensures
     ∙ (ap (λ (z : List ℕ). z ++ flat_map word (take (c.min-names.result - 0) order)) a
     ∙ (append_assoc out (1 ∷ []) (flat_map word (take (c.min-names.result - 0) order))
     ∙ (ap (λ (z : List ℕ). out ++ (1 ∷ flat_map word z)) (sym (take_cut c.args.count (c.min-names.result - 0) order (omega (arith, c.min-names.ensures))))

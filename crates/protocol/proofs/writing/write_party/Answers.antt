@@ -11,15 +11,15 @@ place L k = ap (λ (n : ℕ). n * k) (let z : 32 + 1 + (32 + L) ≡ 65 + L = ome
 pub returns-then-not-has_opened : goal.returns-then-not-has_opened
 returns-then-not-has_opened c =
     let seals = c.args.seals.now in
-    let a = pushed c.part.result.now refl c.in-ok-extend_from_slice.was c.extend_from_slice.ensures.items in
-    pushed (0 ∷ []) a c.in-ok-push.was c.push.ensures.items
+    let a = pushed c.part.result.now refl c.in_ok-extend_from_slice.was c.extend_from_slice.ensures.items in
+    pushed (0 ∷ []) a c.in_ok-push.was c.push.ensures.items
     ∙ party_closed seals c.args.length c.args.party _ (place c.args.length c.args.party) c.part.result.now c.part.ensures (vec_items c.args.out.now) (sym c.has_opened.ensures ∙ c.if-not-has_opened.true)
 
 pub returns : goal.returns
 returns c =
     let seals = c.args.seals.now in
-    let a = pushed c.part.result.now refl c.in-ok-extend_from_slice.was c.extend_from_slice.ensures.items in
-    let b = pushed (1 ∷ []) a c.in-ok-push-2.was c.push-2.ensures.items in
-    pushed c.part-2.result.now b c.in-ok-extend_from_slice-2.was c.extend_from_slice-2.ensures.items
+    let a = pushed c.part.result.now refl c.in_ok-extend_from_slice.was c.extend_from_slice.ensures.items in
+    let b = pushed (1 ∷ []) a c.in_ok-push-2.was c.push-2.ensures.items in
+    pushed c.part-2.result.now b c.in_ok-extend_from_slice-2.was c.extend_from_slice-2.ensures.items
     ∙ party_open seals c.args.length c.args.party _ (place c.args.length c.args.party) c.part.result.now c.part.ensures (vec_items c.args.out.now) c.part-2.result.now _ _
     (sym c.has_opened.ensures ∙ c.if-not-has_opened.false) (omega arith) refl c.part-2.ensures

@@ -4,8 +4,8 @@ use Rattle.output.specs.Output.{put}
 use Rattle.report_text.specs.Report.{bits_words}
 use Rattle.report_text.proofs.parties.put_used.Goals as goal
 
-pub returns-in-default : goal.returns-in-default
-returns-in-default c = c.put.ensures ∙ ap (λ (u : Option ℕ). put (c.args.out.now, c.args.at) (bits_words u)) (sym c.in-default.is)
+pub returns-in_default : goal.returns-in_default
+returns-in_default c = c.put.ensures ∙ ap (λ (u : Option ℕ). put (c.args.out.now, c.args.at) (bits_words u)) (sym c.in_default.is)
 
 pub returns : goal.returns
 returns c =

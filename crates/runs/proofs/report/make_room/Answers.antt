@@ -13,19 +13,19 @@ all_zeros a b d e f p q r s t = λ i. record { slots = p i; index = q i; seals =
 abbrev Fresh : Room → Type 0
 Fresh m = contents m ≡ zeros
 
-pub returns-in-err-index : goal.returns-in-err-index
-returns-in-err-index c = IfOk-from_err _ Fresh c.from-residual-in-err-index.ensures.0
+pub returns-in_err-index : goal.returns-in_err-index
+returns-in_err-index c = IfOk-from_err _ Fresh c.from-residual-in_err-index.ensures.0
 
-pub returns-in-err-seals : goal.returns-in-err-seals
-returns-in-err-seals c = IfOk-from_err _ Fresh c.from-residual-in-err-seals.ensures.0
+pub returns-in_err-seals : goal.returns-in_err-seals
+returns-in_err-seals c = IfOk-from_err _ Fresh c.from-residual-in_err-seals.ensures.0
 
-pub returns-in-err-bits : goal.returns-in-err-bits
-returns-in-err-bits c = IfOk-from_err _ Fresh c.from-residual-in-err-bits.ensures.0
+pub returns-in_err-bits : goal.returns-in_err-bits
+returns-in_err-bits c = IfOk-from_err _ Fresh c.from-residual-in_err-bits.ensures.0
 
-pub returns-in-err-order : goal.returns-in-err-order
-returns-in-err-order c = IfOk-from_err _ Fresh c.from-residual-in-err-order.ensures.0
+pub returns-in_err-order : goal.returns-in_err-order
+returns-in_err-order c = IfOk-from_err _ Fresh c.from-residual-in_err-order.ensures.0
 
 pub returns : goal.returns
 returns c =
-    all_zeros _ _ _ _ _ (c.in-ok-slots.ensures.items-if-clones-equal (λ y e. e)) (c.in-ok-index.ensures.items-if-clones-equal (λ y e. e)) (c.in-ok-seals.ensures.items-if-clones-equal (λ y e. e))
-    (c.in-ok-bits.ensures.items-if-clones-equal (λ y e. e)) (c.in-ok-order.ensures.items-if-clones-equal (λ y e. e))
+    all_zeros _ _ _ _ _ (c.in_ok-slots.ensures.items-if-clones-equal (λ y e. e)) (c.in_ok-index.ensures.items-if-clones-equal (λ y e. e)) (c.in_ok-seals.ensures.items-if-clones-equal (λ y e. e))
+    (c.in_ok-bits.ensures.items-if-clones-equal (λ y e. e)) (c.in_ok-order.ensures.items-if-clones-equal (λ y e. e))
