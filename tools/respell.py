@@ -19,8 +19,8 @@ HEAD = re.compile(r"(?m)^[ |]*(?:(?:abbrev|unfoldable|opaque|pub|data|record|mod
 LOCAL = re.compile(r"(?:\blet|[;(λ]|\bmodule _ \(|\{)\s*([A-Za-z][\w'-]*-[\w'-]+)(?=[^.\n=↦]*(?::|=|\.\s))")
 GOAL = re.compile(r"(?m)^(?:abbrev )?(?:pub )?([^\s:]+) : (?:goal|given)\.")
 GIVEN = re.compile(r"(?m)^use [^\s{]*\.(?:Goals|Given|Needs)\.\{([^}]*)\}")
-RECORD = re.compile(r"(?m)^(?:pub )?record [^\n]*where\n((?:  [^\n]*\n|\n)*)")
-FIELD = re.compile(r"(?m)^  (?:pub )?([^\s:]+) :")
+RECORD = re.compile(r"(?m)^( *)(?:pub )?record [^\n]*where\n((?:\1  [^\n]*\n|\n)*)")
+FIELD = re.compile(r"(?m)^ +(?:pub )?([^\s:]+) :")
 NAME = re.compile(r"[^\s(){}.;,@\"«»⌜⌝]+")
 ANTT_QUIET = re.compile(r'"(?:[^"\\\n]|\\.)*"|(?<![^\s(){}.;,])--[^\n]*')
 RUST_QUIET = re.compile(r'//[^\n]*|b?"(?:[^"\\]|\\.)*"|b?\'(?:[^\'\\\n]|\\.)\'')
@@ -37,14 +37,15 @@ def files(ending):
 
 
 def is_dashed(name):
-    return re.fullmatch(r"[A-Za-z_][\w']*(?:-[\w']+)+", name) is not None
+    """Whether a name has dashes, or is a type's that the toolchain's script gave underscores."""
+    return re.fullmatch(r"[A-Za-z_][\w']*(?:-[\w']+)+|[A-Z][a-z0-9]+(?:_[a-z0-9]+)+", name) is not None
 
 
 def new_name(name):
-    parts = name.split("-")
+    parts = re.split("[-_]", name)
     if name[0].isupper():
         return "".join(part[0].upper() + part[1:] for part in parts)
-    return "_".join(parts)
+    return name.replace("-", "_")
 
 
 def turned(text, quiet, turn):
@@ -69,7 +70,7 @@ def own_names():
         given.update(GOAL.findall(plain))
         for line in GIVEN.findall(plain):
             given.update(word.strip().split(" as ")[0] for word in line.split(","))
-        for body in RECORD.findall(plain):
+        for _, body in RECORD.findall(plain):
             fields.update(FIELD.findall(body))
         own.update(name for name in HEAD.findall(plain) if is_dashed(name))
         own.update(name for name in LOCAL.findall(plain) if is_dashed(name))

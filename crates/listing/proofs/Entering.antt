@@ -35,28 +35,28 @@ module _ (s : Listing) (x : List ℕ) (h : Sound s) (e : Entered) (t : Taken s x
       let front : List ℕ = take s.count s.index in
       let same : map (name_in new) front ≡ names s =
       map_alike (name_in new) (name_in s.slots) front (all_front (λ i. name_in new i ≡ name_in s.slots i) s.index s.count h.numbers_room
-      (λ i l. name_kept s.slots x s.count t.slots-left (get_or s.index i 0) (h.in_use i l) (h.lengths (get_or s.index i 0) (h.in_use i l)).1)) in
-      ap (map (name_in new)) (take_numbers s.index s.count t.at t.numbers-left place_low)
+      (λ i l. name_kept s.slots x s.count t.slots_left (get_or s.index i 0) (h.in_use i l) (h.lengths (get_or s.index i 0) (h.in_use i l)).1)) in
+      ap (map (name_in new)) (take_numbers s.index s.count t.at t.numbers_left place_low)
       ∙ (map_inserted (name_in new) front t.at s.count
-      ∙ (λ i. insert (same i) t.at (name_new s.slots x s.count t.slots-left i)))
+      ∙ (λ i. insert (same i) t.at (name_new s.slots x s.count t.slots_left i)))
 
   lengths_put : (i : ℕ) → i < s.count + 1 → (0 < get_or (written s.slots x s.count) (slot_size * i) 0) × (get_or (written s.slots x s.count) (slot_size * i) 0 ≤ longest_name)
   lengths_put i l =
       ⊎_elim (λ (e : i ≡ s.count).
       let b : get_or (written s.slots x s.count) (slot_size * i) 0 ≡ length x =
-      ap (λ (k : ℕ). get_or (written s.slots x s.count) (slot_size * k) 0) e ∙ byte_new s.slots x s.count t.slots-left in
+      ap (λ (k : ℕ). get_or (written s.slots x s.count) (slot_size * k) 0) e ∙ byte_new s.slots x s.count t.slots_left in
       (omega (arith, t.some), omega (arith, t.short)))
       (⊎_elim (λ (c : i < s.count).
-      let b : get_or (written s.slots x s.count) (slot_size * i) 0 ≡ get_or s.slots (slot_size * i) 0 = byte_kept s.slots x s.count t.slots-left i c in
+      let b : get_or (written s.slots x s.count) (slot_size * i) 0 ≡ get_or s.slots (slot_size * i) 0 = byte_kept s.slots x s.count t.slots_left i c in
       (omega (arith, (h.lengths i c).0), omega (arith, (h.lengths i c).1)))
       (λ (c : s.count < i). absurd (omega arith)))
       (cases_order i s.count)
 
   pub sound_put : Sound (left s x (put s x t.at))
   sound_put = record {
-    numbers_room = omega (arith, t.numbers-left, length_numbers s.index s.count t.at t.numbers-left place_low);
-    slots_room = omega (arith, t.slots-left, length_written s.slots x s.count t.slots-left t.short);
-    in_use = numbers_in_use s.index s.count t.at t.numbers-left place_low h.in_use;
+    numbers_room = omega (arith, t.numbers_left, length_numbers s.index s.count t.at t.numbers_left place_low);
+    slots_room = omega (arith, t.slots_left, length_written s.slots x s.count t.slots_left t.short);
+    in_use = numbers_in_use s.index s.count t.at t.numbers_left place_low h.in_use;
     lengths = lengths_put;
     sorted = subst Sorted (sym names_put) (sorted_inserted (names s) x t.at place_is.0 h.sorted place_is.1 place_is.2);
   }

@@ -41,7 +41,7 @@ pub entry_needs : EntryNeeds
 entry_needs s x n h a =
     let t = taken_from s x n a in
     let c : n ≡ s.count + 1 = cc (sym a ∙ ap (λ (e : Entered). e.answer) t.is) in
-    (c, t.some, t.short, t.few, none_same s x h (result s x) t, omega (arith, t.slots-left), t.numbers-left)
+    (c, t.some, t.short, t.few, none_same s x h (result s x) t, omega (arith, t.slots_left), t.numbers_left)
 
 pub entry_refused : EntryRefused
 entry_refused s x why a = left_refused s x (refused_from s x why a)

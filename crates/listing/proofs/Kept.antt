@@ -47,8 +47,8 @@ module _ (s : Listing) (x : List ℕ) (h : Sound s) where
   pub room_left : (n : ℕ) → RoomFor s (suc n) → RoomFor (after_entry s x) n
   room_left n m =
       ⊎_elim (λ (t : Taken s x (result s x)).
-      let a = length_written s.slots x s.count t.slots-left t.short in
-      let b = length_numbers s.index s.count t.at t.numbers-left (place_low s x h (result s x) t) in
+      let a = length_written s.slots x s.count t.slots_left t.short in
+      let b = length_numbers s.index s.count t.at t.numbers_left (place_low s x h (result s x) t) in
       subst (λ (u : Listing). RoomFor u n) (sym (left_taken s x t)) (omega (arith, m.0), omega (arith, m.1), omega (arith, m.2)))
       (λ (r : Refused s x (result s x)). subst (λ (u : Listing). RoomFor u n) (sym (left_refused s x r)) (omega (arith, m.0), omega (arith, m.1), omega (arith, m.2)))
       (entry_cases s x)

@@ -1,19 +1,18 @@
 -- Rows in order: equal in order is equal, and two rows stand one way round only. Assumes nothing.
 use Rattle.std.proofs.Common.{◌≡◌, ℕ, List, Ordering, Less, Equal, Greater, ap, ◌∙◌, arith}
-use Rattle.std.specs.Cmp.{nat_cmp_total}
+use Rattle.std.proofs.lemmas.Cmp.{nat_list_cmp_total}
 use Rattle.std.specs.Ordering.{ordering_reverse}
 use Rattle.std.proofs.lemmas.Map.Lookups.{exact_bytes}
 use Rattle.entries.specs.Rows.{row_order}
-use Rattle.std.specs.Cmp.Lexicographic.{lists_total}
 
 pub row_equal : (x y : List ℕ) → row_order x y ≡ Equal → x ≡ y
 row_equal x y h = exact_bytes x y h
 
 pub row_trans : (x y z : List ℕ) → row_order x y ≡ Less → row_order y z ≡ Less → row_order x z ≡ Less
-row_trans x y z h k = (lists_total nat_cmp_total).trans x y z h k
+row_trans x y z h k = nat_list_cmp_total.trans x y z h k
 
 pub row_flip : (x y : List ℕ) (o : Ordering) → row_order x y ≡ o → row_order y x ≡ ordering_reverse o
-row_flip x y o h = (lists_total nat_cmp_total).antisymm y x ∙ ap ordering_reverse h
+row_flip x y o h = nat_list_cmp_total.antisymm y x ∙ ap ordering_reverse h
 
 pub row_greater : (x y : List ℕ) → row_order x y ≡ Less → row_order y x ≡ Greater
 row_greater x y h = row_flip x y Less h

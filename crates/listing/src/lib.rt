@@ -1,6 +1,7 @@
 // The laws of the list of names, over the definitions that the contracts of `entries` cite. No program calls these
 // functions: each is there so that its contract demands the proof of a law.
 #![tactic(auto)]
+
 ghost use Rattle.listing.specs.Laws.{PlaceFound, EntryInserts, EntryTaken, EntryNeeds, EntryRefused, EntryKeeps, OneList, AllListed, AnyOrder};
 
 // Halving finds a name, or the place where it belongs.

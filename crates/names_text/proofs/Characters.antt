@@ -27,15 +27,15 @@ forth n low high b bs l h =
     ap (λ (o : Owed). text_from o bs)
     (next_is n low high b ∙ (ap (λ (t : Bool). cond t no_text (cond (ltb high b) no_text (owed n 128 191))) (le-ltb b low l) ∙ ap (λ (t : Bool). cond t no_text (owed n 128 191)) (le-ltb high b h)))
 
-abbrev Goes_on : ℕ → ℕ → ℕ → List ℕ → Type 0
-Goes_on n low high rest = (b : ℕ) × (bs : List ℕ) × (rest ≡ b ∷ bs) × (low ≤ b) × (b ≤ high) × (text_from (owed n 128 191) bs ≡ true)
+abbrev GoesOn : ℕ → ℕ → ℕ → List ℕ → Type 0
+GoesOn n low high rest = (b : ℕ) × (bs : List ℕ) × (rest ≡ b ∷ bs) × (low ≤ b) × (b ≤ high) × (text_from (owed n 128 191) bs ≡ true)
 
-back : (n low high : ℕ) (rest : List ℕ) → text_from (owed (suc n) low high) rest ≡ true → Goes_on n low high rest
+back : (n low high : ℕ) (rest : List ℕ) → text_from (owed (suc n) low high) rest ≡ true → GoesOn n low high rest
 unfolding text_from
 back n low high [] e = absurd (both_ways _ (ne_eqb (suc n) 0 (λ z. omega arith)) e)
 back n low high (b ∷ bs) e = go (ltb b low) (ltb high b) refl refl (sym (ap (λ (o : Owed). text_from o bs) (next_is n low high b)) ∙ e)
   where
-    go : (s t : Bool) → ltb b low ≡ s → ltb high b ≡ t → text_from (cond s no_text (cond t no_text (owed n 128 191))) bs ≡ true → Goes_on n low high (b ∷ bs)
+    go : (s t : Bool) → ltb b low ≡ s → ltb high b ≡ t → text_from (cond s no_text (cond t no_text (owed n 128 191))) bs ≡ true → GoesOn n low high (b ∷ bs)
     go true t p q f = absurd (both_ways _ (no_text_stays bs) f)
     go false true p q f = absurd (both_ways _ (no_text_stays bs) f)
     go false false p q f = (b, bs, refl, ltb-false b low p, ltb-false high b q, f)

@@ -176,7 +176,7 @@ module _ (B : List ℕ) (byte : Bytes B) (whole : size B ≡ length B) (r : Rang
       ap (λ (k : ℕ). word k ++ (packed_rows names ++ (word (bits_length B) ++ (length (parties_of B) ∷ (parties ++ order))))) count
       ∙ (ap (λ (k : ℕ). word (name_count B) ++ (packed_rows names ++ (word (bits_length B) ++ (k ∷ (parties ++ order))))) party_number
       ∙ (sym (regroup (word (name_count B)) (packed_rows names) (word (bits_length B)) parties order (party_count B))
-      ∙ (ap (λ (z : List ℕ). z ++ order) (sym (order_front B byte whole r.each-mark)) ∙ sym (order_by (ordered (drawing_of B)) refl f))))
+      ∙ (ap (λ (z : List ℕ). z ++ order) (sym (order_front B byte whole r.each_mark)) ∙ sym (order_by (ordered (drawing_of B)) refl f))))
     where
       regroup : (a b c e o : List ℕ) (x : ℕ) → (a ++ (b ++ (c ++ (x ∷ e)))) ++ o ≡ a ++ (b ++ (c ++ (x ∷ (e ++ o))))
       regroup a b c e o x = simp append_assoc

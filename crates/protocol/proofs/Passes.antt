@@ -99,7 +99,7 @@ module _ (B : List ℕ) where
       (or_pass (first_of (name_fault B) (name_count B)) _ (first_all (name_fault B) (name_count B) (λ k h. name_passes k (r.each_name k h)))
       (cond_pass (outside 64 8192 (bits_length B)) (length_at B) _ (inside 64 8192 _ r.enough_bits r.few_bits)
       (cond_pass (eqb (party_count B) 0) (length_at B + 2) _ (ne_eqb _ _ r.some_parties)
-      (first_all (opened_fault B) (party_count B) (λ k h. opened_passes k (r.each-mark k h))))))
+      (first_all (opened_fault B) (party_count B) (λ k h. opened_passes k (r.each_mark k h))))))
 
   pub range_passed : range_fault B ≡ None → Ranged
   range_passed e =

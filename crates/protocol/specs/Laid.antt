@@ -4,7 +4,7 @@ use Rattle.protocol.specs.Layout.{name_count, length_at, bits_length, party_coun
 use Rattle.protocol.specs.declared.layout.Layout.{Layout}
 
 -- the numbers and places are those of these bytes, and the places are far from the end of memory
-pub record Laid_out (bytes : List ℕ) (l : Layout) : Type 0 where
+pub record LaidOut (bytes : List ℕ) (l : Layout) : Type 0 where
   pub names : l.names ≡ name_count bytes
   pub first : l.length_at ≡ length_at bytes
   pub bits : l.length ≡ bits_length bytes

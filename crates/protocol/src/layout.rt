@@ -1,7 +1,7 @@
 // Where the parts of a protocol stand, by its counts and lengths as they stand.
 ghost use Rattle.std.specs.Prelude.{◌≡◌, ◌+◌, ◌*◌, ◌^◌, ◌<◌, ◌≤◌, slice_index};
 ghost use Rattle.protocol.specs.Check.{shape_fault};
-ghost use Rattle.protocol.specs.Laid.{Laid_out};
+ghost use Rattle.protocol.specs.Laid.{LaidOut};
 ghost use Rattle.protocol.specs.Layout.{name_at, length-at, bits_length, party_at, opening_size, size};
 
 use crate::bytes::{byte_at, word_at};
@@ -19,7 +19,7 @@ pub(crate) struct Layout {
 
 impl Layout {
     pub(crate) fn of(bytes: &[u8]) -> Layout
-        ensures { Laid_out bytes.now result }
+        ensures { LaidOut bytes.now result }
     {
         let names = word_at(bytes, 0);
         let length_at = names_end(bytes, names);
@@ -37,7 +37,7 @@ impl Layout {
 
     // How many bytes the protocol has by its counts and lengths.
     fn size(self, bytes: &[u8]) -> usize
-        requires { Laid_out bytes.now self }
+        requires { LaidOut bytes.now self }
         ensures { result ≡ size bytes.now }
     {
         let order = if byte_at(bytes, self.order_at) == 1 {
@@ -50,7 +50,7 @@ impl Layout {
 
     // The first pass: where the protocol ends too early, its length; where it goes on, the first place too many.
     pub(crate) fn shape_fault(self, bytes: &[u8]) -> Option<usize>
-        requires { Laid_out bytes.now self }
+        requires { LaidOut bytes.now self }
         ensures { result ≡ shape_fault bytes.now }
     {
         let size = self.size(bytes);

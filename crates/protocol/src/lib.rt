@@ -5,10 +5,11 @@
 // party its seal of 32 bytes, one byte 1 if it opened, else 0, and if it opened its 32 bytes and its bits; one byte 1 if
 // there is an order, else 0, and if there is one the order as numbers of the list.
 #![tactic(auto)]
+
 ghost use Rattle.std.specs.Prelude.{◌≡◌, IfOk, vec_items, string_bytes};
 ghost use Rattle.std.specs.Option.{option_map};
 ghost use Rattle.protocol.specs.Check.{checked, verdict, early_fault};
-ghost use Rattle.protocol.specs.Laid.{Laid_out};
+ghost use Rattle.protocol.specs.Laid.{LaidOut};
 ghost use Rattle.protocol.specs.Draws.{AcceptsDrawn, AcceptsOnlyDrawn};
 ghost use Rattle.protocol.specs.Finished.{protocol_of};
 ghost use Rattle.protocol.specs.Protocol.{written};
@@ -64,7 +65,7 @@ pub fn check(heap: Global, protocol: &[u8]) -> Result<Checked, AllocError>
 
 // What the first three passes refuse.
 fn early_fault(protocol: &[u8], layout: Layout) -> Option<Refusal>
-    requires { Laid_out protocol.now layout }
+    requires { LaidOut protocol.now layout }
     ensures { result ≡ early_fault protocol.now }
 {
     if let Some(at) = layout.shape_fault(protocol) {

@@ -1,7 +1,7 @@
 // The third pass: each opening gives its party's seal, and a party opened. And the sum of the opened parties' bits.
 ghost use Rattle.std.specs.Prelude.{◌≡◌, ◌+◌, ◌^◌, ◌<◌, map, length, drop};
 ghost use Rattle.protocol.specs.Check.{first_of, hash_of, wrong_opening, party_fault, opened_count, seal_fault};
-ghost use Rattle.protocol.specs.Laid.{Laid_out};
+ghost use Rattle.protocol.specs.Laid.{LaidOut};
 ghost use Rattle.protocol.specs.Layout.{party_in, party_count, parties_of};
 ghost use Rattle.protocol.specs.Protocol.{openings};
 ghost use Rattle.sum.specs.Sums.{sum_from};
@@ -25,7 +25,7 @@ fn is_wrong(hash: &[u8], bytes: &[u8], at: usize, length: u16, party: u8) -> boo
 }
 
 fn first_wrong(bytes: &[u8], layout: Layout) -> Option<u8>
-    requires { Laid_out bytes.now layout }
+    requires { LaidOut bytes.now layout }
     ensures { result ≡ first_of (party_fault (hash_of bytes.now) bytes.now) (party_count bytes.now) }
 {
     let hash = sha256::hash(part(bytes, 2, layout.length_at - 2));
@@ -41,7 +41,7 @@ fn first_wrong(bytes: &[u8], layout: Layout) -> Option<u8>
 
 // How many parties opened.
 pub(crate) fn opened_count(bytes: &[u8], layout: Layout) -> u8
-    requires { Laid_out bytes.now layout }
+    requires { LaidOut bytes.now layout }
     ensures { result ≡ opened_count bytes.now }
 {
     let mut opened = 0;
@@ -54,7 +54,7 @@ pub(crate) fn opened_count(bytes: &[u8], layout: Layout) -> u8
 }
 
 pub(crate) fn seal_fault(bytes: &[u8], layout: Layout) -> Option<u8>
-    requires { Laid_out bytes.now layout }
+    requires { LaidOut bytes.now layout }
     ensures { result ≡ seal_fault bytes.now }
 {
     let wrong = first_wrong(bytes, layout);
@@ -69,7 +69,7 @@ pub(crate) fn seal_fault(bytes: &[u8], layout: Layout) -> Option<u8>
 
 // Adds the bits of each party that opened to the sum.
 pub(crate) fn add_bits(sum: &mut [u8], bytes: &[u8], layout: Layout)
-    requires { Laid_out bytes.now layout }
+    requires { LaidOut bytes.now layout }
     ensures { sum.new ≡ sum_from sum.old (map (drop 32) (openings (parties_of bytes.now))) }
 {
     let mut at = layout.length_at + 3;

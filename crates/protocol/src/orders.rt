@@ -2,7 +2,7 @@
 // one.
 ghost use Rattle.std.specs.Prelude.{◌≡◌, ◌+◌, ◌*◌, ◌^◌, ◌<◌, map, length, drop, IfSome, IfOk, vec_items, vec_len};
 ghost use Rattle.protocol.specs.Check.{drawing_of, order_fault};
-ghost use Rattle.protocol.specs.Laid.{Laid_out};
+ghost use Rattle.protocol.specs.Laid.{LaidOut};
 ghost use Rattle.protocol.specs.Layout.{bits_length, parties_of, numbers_at, order_at};
 ghost use Rattle.protocol.specs.Protocol.{openings, ordered};
 ghost use Rattle.std.specs.Option.{option_map};
@@ -17,7 +17,7 @@ use std::alloc::{AllocError, Global};
 
 // The sum of the opened parties' bits.
 fn sum_of_bits(heap: Global, bytes: &[u8], layout: Layout) -> Result<Vec<u8>, AllocError>
-    requires { Laid_out bytes.now layout }
+    requires { LaidOut bytes.now layout }
     ensures { IfOk result (λ v. v.items ≡ sum_of (bits_length bytes.now) (map (drop 32) (openings (parties_of bytes.now)))) }
 {
     let mut sum = vec![in heap; 0; layout.length as usize]?;
@@ -31,7 +31,7 @@ pub(crate) fn draw(
     bytes: &[u8],
     layout: Layout,
 ) -> Result<Option<Vec<u16>>, AllocError>
-    requires { Laid_out bytes.now layout }
+    requires { LaidOut bytes.now layout }
     ensures is { IfOk result (λ o. option_map vec_items o ≡ ordered (drawing_of bytes.now)) }
     ensures long { IfOk result (λ o. IfSome o (λ v. vec_len v ≡ layout.names)) }
 {

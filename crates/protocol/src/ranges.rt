@@ -3,7 +3,7 @@
 ghost use Rattle.std.specs.Prelude.{◌≡◌, ◌+◌, ◌^◌, ◌<◌};
 ghost use Rattle.entries.specs.Rows.{row_order};
 ghost use Rattle.protocol.specs.Check.{first_of, fault_in_name, name_fault, opened_fault, range_fault};
-ghost use Rattle.protocol.specs.Laid.{Laid_out};
+ghost use Rattle.protocol.specs.Laid.{LaidOut};
 ghost use Rattle.protocol.specs.Layout.{name_in, party_count};
 ghost use Rattle.std.specs.Ordering.{is_lt};
 
@@ -65,7 +65,7 @@ fn names_fault(bytes: &[u8], names: u16) -> Option<usize>
 }
 
 fn opened_fault(bytes: &[u8], layout: Layout) -> Option<usize>
-    requires { Laid_out bytes.now layout }
+    requires { LaidOut bytes.now layout }
     ensures { result ≡ first_of (opened_fault bytes.now) (party_count bytes.now) }
 {
     let mut at = layout.length_at + 3;
@@ -79,7 +79,7 @@ fn opened_fault(bytes: &[u8], layout: Layout) -> Option<usize>
 }
 
 pub(crate) fn range_fault(bytes: &[u8], layout: Layout) -> Option<usize>
-    requires { Laid_out bytes.now layout }
+    requires { LaidOut bytes.now layout }
     ensures { result ≡ range_fault bytes.now }
 {
     if layout.names < 1 || layout.names > MOST_NAMES {
