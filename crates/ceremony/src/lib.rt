@@ -4,6 +4,7 @@
 // draws the order. A closing consumes its state and gives the next, or gives the same state back with the refusal. All
 // memory is lent by the caller and held together.
 #![tactic(auto)]
+
 mod finished;
 mod listing;
 mod memory;

@@ -2,7 +2,7 @@
 ghost use Rattle.std.specs.Prelude.{◌≡◌, ◌+◌, ◌*◌, ◌^◌, ◌<◌, ◌≤◌, slice_index};
 ghost use Rattle.protocol.specs.Check.{shape_fault};
 ghost use Rattle.protocol.specs.Laid.{LaidOut};
-ghost use Rattle.protocol.specs.Layout.{name_at, length-at, bits_length, party_at, opening_size, size};
+ghost use Rattle.protocol.specs.Layout.{name_at, length_at, bits_length, party_at, opening_size, size};
 
 use crate::bytes::{byte_at, word_at};
 
@@ -93,7 +93,7 @@ pub(crate) fn party_end(bytes: &[u8], at: usize, length: u16) -> usize
 
 // The place behind the parties.
 fn parties_end(bytes: &[u8], first: usize, length: u16, parties: u8) -> usize
-    requires first { first ≡ length-at bytes.now + 3 }
+    requires first { first ≡ length_at bytes.now + 3 }
     requires bits { length ≡ bits_length bytes.now }
     requires near { first ≤ 2 ^ 32 + 3 }
     ensures is { result ≡ party_at bytes.now parties }

@@ -3,6 +3,7 @@
 // `draw` is all that the program of that name does between reading its file and printing: the memory of the draw, every
 // step of the file, the lines for the refusals, the summary and the parties left out, and the bytes of the protocol.
 #![tactic(auto)]
+
 mod report;
 mod run;
 

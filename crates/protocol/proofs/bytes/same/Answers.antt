@@ -1,10 +1,4 @@
-use Rattle.std.specs.Str.{bytes_eq}
-use Rattle.std.proofs.lemmas.Slice.Eq.{slice_eq-Decides, bytes_eq-Decides}
-use Rattle.std.proofs.lemmas.Bool.Decides.{same_from_decides}
 use Rattle.protocol.proofs.bytes.same.Goals as goal
 
 pub returns : goal.returns
-returns c =
-    let a = c.args.a.now in
-    let b = c.args.b.now in
-    same_from_decides c.eq.result (bytes_eq a b) (slice_eq-Decides a b c.eq.result c.eq.ensures) (bytes_eq-Decides a b)
+returns c = c.eq.ensures

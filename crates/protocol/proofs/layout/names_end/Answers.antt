@@ -6,4 +6,4 @@ pub loop-k-init : goal.loop-k-init
 loop-k-init c = (sym (name_none c.args.bytes.now), omega arith, omega arith)
 
 pub loop-k-preserved : goal.loop-k-preserved
-loop-k-preserved c = (name_step c.args.bytes.now c.loop-k.at c.loop-k.-k c.byte_at.result c.loop-k.invariant.0 c.byte_at.ensures, omega arith, omega arith)
+loop-k-preserved c = (name_step c.args.bytes.now c.loop-k.at c.loop-k._k c.byte_at.result c.loop-k.invariant.0 c.byte_at.ensures, omega arith, omega arith)

@@ -7,4 +7,4 @@ loop-k-init c = (c.requires.first ∙ sym (party_none c.args.bytes.now), omega a
 
 pub loop-k-preserved : goal.loop-k-preserved
 loop-k-preserved c =
-    (party_step c.args.bytes.now c.loop-k.at c.loop-k.-k c.args.length c.party_end-at.result c.loop-k.invariant.0 c.requires.bits c.party_end-at.ensures.is, omega arith)
+    (party_step c.args.bytes.now c.loop-k.at c.loop-k._k c.args.length c.party_end-at.result c.loop-k.invariant.0 c.requires.bits c.party_end-at.ensures.is, omega arith)

@@ -17,18 +17,18 @@ pub loop-k-preserved : goal.loop-k-preserved
 loop-k-preserved c =
     let bytes = c.args.bytes.now in
     let i = c.loop-k.invariant in (
-      party_step bytes c.loop-k.at c.loop-k.-k c.args.layout.length c.party_end-at.result i.0 c.requires.bits c.party_end-at.ensures.is,
+      party_step bytes c.loop-k.at c.loop-k._k c.args.layout.length c.party_end-at.result i.0 c.requires.bits c.party_end-at.ensures.is,
       omega arith,
       elim c.if-byte_at-eq1.branch [
         | then-byte_at-eq1 w ↦
             w.sum-is
-            ∙ added c.args.sum.now c.loop-k.sum w.add.new.sum w.part.result.now (map (drop 32) (so_far bytes c.loop-k.-k)) (map (drop 32) (so_far bytes (c.loop-k.-k + 1)))
+            ∙ added c.args.sum.now c.loop-k.sum w.add.new.sum w.part.result.now (map (drop 32) (so_far bytes c.loop-k._k)) (map (drop 32) (so_far bytes (c.loop-k._k + 1)))
             i.2 w.add.ensures.after
-            (bits_more bytes c.loop-k.-k c.loop-k.at c.args.layout.length c.byte_at.result i.0 c.requires.bits c.byte_at.ensures w.if-byte_at-eq1.true _ (omega arith)
-            ∙ ap (λ (z : List ℕ). map (drop 32) (so_far bytes c.loop-k.-k) ++ z ∷ []) (sym w.part.ensures))
+            (bits_more bytes c.loop-k._k c.loop-k.at c.args.layout.length c.byte_at.result i.0 c.requires.bits c.byte_at.ensures w.if-byte_at-eq1.true _ (omega arith)
+            ∙ ap (λ (z : List ℕ). map (drop 32) (so_far bytes c.loop-k._k) ++ z ∷ []) (sym w.part.ensures))
         | else-byte_at-eq1 w ↦
             w.sum-is
             ∙ (i.2
-            ∙ ap (sum_from c.args.sum.now) (sym (bits_same bytes c.loop-k.-k c.loop-k.at c.args.layout.length c.byte_at.result i.0 c.requires.bits c.byte_at.ensures w.if-byte_at-eq1.false)))
+            ∙ ap (sum_from c.args.sum.now) (sym (bits_same bytes c.loop-k._k c.loop-k.at c.args.layout.length c.byte_at.result i.0 c.requires.bits c.byte_at.ensures w.if-byte_at-eq1.false)))
       ],
     )

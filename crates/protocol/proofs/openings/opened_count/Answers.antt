@@ -15,8 +15,8 @@ pub loop-k-preserved : goal.loop-k-preserved
 loop-k-preserved c =
     let bytes = c.args.bytes.now in
     let i = c.loop-k.invariant in (
-      party_step bytes c.loop-k.at c.loop-k.-k c.args.layout.length c.party_end-at.result i.0 c.requires.bits c.party_end-at.ensures.is,
+      party_step bytes c.loop-k.at c.loop-k._k c.args.layout.length c.party_end-at.result i.0 c.requires.bits c.party_end-at.ensures.is,
       omega arith,
-      ap (λ (x : ℕ). x + c.from-opened.result) i.2 ∙ (ap (λ (x : ℕ). length (so_far bytes c.loop-k.-k) + x) c.from-opened.ensures ∙ sym (count_more bytes c.loop-k.-k c.loop-k.at c.args.layout.length c.byte_at.result i.0 c.requires.bits c.byte_at.ensures)),
+      ap (λ (x : ℕ). x + c.from-opened.result) i.2 ∙ (ap (λ (x : ℕ). length (so_far bytes c.loop-k._k) + x) c.from-opened.ensures ∙ sym (count_more bytes c.loop-k._k c.loop-k.at c.args.layout.length c.byte_at.result i.0 c.requires.bits c.byte_at.ensures)),
       omega (arith, bool_small (eqb c.byte_at.result 1)),
     )

@@ -9,9 +9,9 @@ pub returns : goal.returns
 unfolding sum_of
 returns c =
     let rows = map (drop 32) (openings (parties_of c.args.bytes.now)) in
-    let l = c.add_bits.auto.sum ∙ c.deref-mut.ensures.len in
-    let z = c.in_ok-sum.ensures.items-if-clones-equal (λ y e. e) in
+    let l = c.add_bits.auto.sum ∙ c.deref_mut.ensures.len in
+    let z = c.in_ok-sum.ensures.items_if_clones_equal (λ y e. e) in
     with_items_is c.in_ok-sum.sum c.add_bits.new.sum l
     ∙ (c.add_bits.ensures
-    ∙ (ap (λ (s : List ℕ). sum_from s rows) (c.deref-mut.ensures.value ∙ z)
+    ∙ (ap (λ (s : List ℕ). sum_from s rows) (c.deref_mut.ensures.value ∙ z)
     ∙ ap (λ (n : ℕ). sum_from (replicate n 0) rows) c.requires.bits))

@@ -12,16 +12,16 @@ pub returns-then-is_some : goal.returns-then-is_some
 returns-then-is_some c =
     let bytes = c.args.bytes.now in
     let i = c.loop-k.invariant in
-    let f = name_fault_is bytes c.loop-k.-k c.loop-k.at c.loop-k.before.now c.name_fault-fault.result i.0 i.2 c.name_fault-fault.ensures in
-    first_is (name_fault bytes) c.loop-k.-k c.args.names c.name_fault-fault.result c.loop-k-test.true i.3 f (search rules)
+    let f = name_fault_is bytes c.loop-k._k c.loop-k.at c.loop-k.before.now c.name_fault-fault.result i.0 i.2 c.name_fault-fault.ensures in
+    first_is (name_fault bytes) c.loop-k._k c.args.names c.name_fault-fault.result c.loop-k-test.true i.3 f (search rules)
 
 pub loop-k-preserved : goal.loop-k-preserved
 loop-k-preserved c =
     let bytes = c.args.bytes.now in
     let i = c.loop-k.invariant in
-    let f = name_fault_is bytes c.loop-k.-k c.loop-k.at c.loop-k.before.now c.name_fault-fault.result i.0 i.2 c.name_fault-fault.ensures in (
-      name_step bytes c.loop-k.at c.loop-k.-k c.byte_at.result i.0 c.byte_at.ensures,
+    let f = name_fault_is bytes c.loop-k._k c.loop-k.at c.loop-k.before.now c.name_fault-fault.result i.0 i.2 c.name_fault-fault.ensures in (
+      name_step bytes c.loop-k.at c.loop-k._k c.byte_at.result i.0 c.byte_at.ensures,
       omega arith,
-      before_more bytes c.loop-k.-k c.loop-k.at c.name_at-before.result.now i.0 c.name_at-before.ensures,
-      first_on (name_fault bytes) c.loop-k.-k c.name_fault-fault.result i.3 f (search rules),
+      before_more bytes c.loop-k._k c.loop-k.at c.name_at-before.result.now i.0 c.name_at-before.ensures,
+      first_on (name_fault bytes) c.loop-k._k c.name_fault-fault.result i.3 f (search rules),
     )

@@ -5,4 +5,4 @@ use Rattle.protocol.proofs.ranges.opened_fault.Given as goal
 
 abbrev pub invariant-loop-k : goal.invariant-loop-k
 invariant-loop-k l =
-    (l.at ≡ party_at l.bytes l.-k) × (l.at ≤ l.layout.length_at + 3 + 65600 * l.-k) × (first_of (opened_fault l.bytes) l.-k ≡ None)
+    (l.at ≡ party_at l.bytes l._k) × (l.at ≤ l.layout.length_at + 3 + 65600 * l._k) × (first_of (opened_fault l.bytes) l._k ≡ None)

@@ -14,18 +14,18 @@ abbrev Fresh : Room → Type 0
 Fresh m = contents m ≡ zeros
 
 pub returns-in_err-index : goal.returns-in_err-index
-returns-in_err-index c = IfOk-from_err _ Fresh c.from-residual-in_err-index.ensures.0
+returns-in_err-index c = IfOk-from_err _ Fresh c.from_residual-in_err-index.ensures.0
 
 pub returns-in_err-seals : goal.returns-in_err-seals
-returns-in_err-seals c = IfOk-from_err _ Fresh c.from-residual-in_err-seals.ensures.0
+returns-in_err-seals c = IfOk-from_err _ Fresh c.from_residual-in_err-seals.ensures.0
 
 pub returns-in_err-bits : goal.returns-in_err-bits
-returns-in_err-bits c = IfOk-from_err _ Fresh c.from-residual-in_err-bits.ensures.0
+returns-in_err-bits c = IfOk-from_err _ Fresh c.from_residual-in_err-bits.ensures.0
 
 pub returns-in_err-order : goal.returns-in_err-order
-returns-in_err-order c = IfOk-from_err _ Fresh c.from-residual-in_err-order.ensures.0
+returns-in_err-order c = IfOk-from_err _ Fresh c.from_residual-in_err-order.ensures.0
 
 pub returns : goal.returns
 returns c =
-    all_zeros _ _ _ _ _ (c.in_ok-slots.ensures.items-if-clones-equal (λ y e. e)) (c.in_ok-index.ensures.items-if-clones-equal (λ y e. e)) (c.in_ok-seals.ensures.items-if-clones-equal (λ y e. e))
-    (c.in_ok-bits.ensures.items-if-clones-equal (λ y e. e)) (c.in_ok-order.ensures.items-if-clones-equal (λ y e. e))
+    all_zeros _ _ _ _ _ (c.in_ok-slots.ensures.items_if_clones_equal (λ y e. e)) (c.in_ok-index.ensures.items_if_clones_equal (λ y e. e)) (c.in_ok-seals.ensures.items_if_clones_equal (λ y e. e))
+    (c.in_ok-bits.ensures.items_if_clones_equal (λ y e. e)) (c.in_ok-order.ensures.items_if_clones_equal (λ y e. e))
