@@ -21,6 +21,7 @@ GOAL = re.compile(r"(?m)^(?:abbrev )?(?:pub )?([^\s:]+) : (?:goal|given)\.")
 GIVEN = re.compile(r"(?m)^use [^\s{]*\.(?:Goals|Given|Needs)\.\{([^}]*)\}")
 RECORD = re.compile(r"(?m)^( *)(?:pub )?record [^\n]*where\n((?:\1  [^\n]*\n|\n)*)")
 FIELD = re.compile(r"(?m)^ +(?:pub )?([^\s:]+) :")
+MODULE = re.compile(r"(?m)^use \S+ as (\w+)$")
 NAME = re.compile(r"[^\s(){}.;,@\"«»⌜⌝]+")
 ANTT_QUIET = re.compile(r'"(?:[^"\\\n]|\\.)*"|(?<![^\s(){}.;,])--[^\n]*')
 RUST_QUIET = re.compile(r'//[^\n]*|b?"(?:[^"\\]|\\.)*"|b?\'(?:[^\'\\\n]|\\.)\'')
@@ -120,14 +121,15 @@ def main():
     if clash:
         sys.exit("nothing is written")
 
-    def turn(text):
+    def turn(text, modules):
         def one(it):
             word = it.group()
             if word not in table:
                 return word
-            # what stands behind a dot is a field, or a name behind its module, which begins with a capital
+            # what stands behind a dot is a field, or a name behind its module
             before = re.search(r"([^\s(){};,@\"«»]*)\.$", text[: it.start()][-200:])
-            if before and word not in fields and not before[1].split(".")[-1][:1].isupper():
+            module = before[1].split(".")[-1] if before else ""
+            if before and word not in fields and not module[:1].isupper() and module not in modules:
                 return word
             return table[word]
 
@@ -135,7 +137,8 @@ def main():
 
     for ending, quiet in ((".antt", ANTT_QUIET), (".rt", RUST_QUIET), (".edit", RUST_QUIET)):
         for path, text in files(ending):
-            new = turned(text, quiet, turn)
+            modules = set(MODULE.findall(text))
+            new = turned(text, quiet, lambda part: turn(part, modules))
             if new != text:
                 with open(path, "w", encoding="utf-8") as file:
                     file.write(new)

@@ -17,18 +17,18 @@ digit_xor (suc zero) (suc zero) h l = refl
 digit_xor (suc zero) (suc (suc y)) h l = absurd (omega arith)
 digit_xor (suc (suc x)) y h l = absurd (omega arith)
 
-bit_xor : (a b k : ℕ) → bit_xor a b / 2 ^ k % 2 ≡ add_bit (a / 2 ^ k % 2) (b / 2 ^ k % 2)
-bit_xor a b k =
+xor_bit : (a b k : ℕ) → bit_xor a b / 2 ^ k % 2 ≡ add_bit (a / 2 ^ k % 2) (b / 2 ^ k % 2)
+xor_bit a b k =
     ap (λ x. x % 2) (xor_shr a b k) ∙ xor_mod (a / 2 ^ k) (b / 2 ^ k) 1 ∙ digit_xor (a / 2 ^ k % 2) (b / 2 ^ k % 2) (omega arith) (omega arith)
 
 byte_xor : (a b : ℕ) → byte_bits (bit_xor a b) ≡ add_bits (byte_bits a) (byte_bits b)
 unfolding add_bits
 byte_xor a b =
-    ap₂ ◌∷◌ (bit_xor a b 7)
-    (ap₂ ◌∷◌ (bit_xor a b 6)
-    (ap₂ ◌∷◌ (bit_xor a b 5)
-    (ap₂ ◌∷◌ (bit_xor a b 4)
-    (ap₂ ◌∷◌ (bit_xor a b 3) (ap₂ ◌∷◌ (bit_xor a b 2) (ap₂ ◌∷◌ (bit_xor a b 1) (ap₂ ◌∷◌ (bit_xor a b 0) refl)))))))
+    ap₂ ◌∷◌ (xor_bit a b 7)
+    (ap₂ ◌∷◌ (xor_bit a b 6)
+    (ap₂ ◌∷◌ (xor_bit a b 5)
+    (ap₂ ◌∷◌ (xor_bit a b 4)
+    (ap₂ ◌∷◌ (xor_bit a b 3) (ap₂ ◌∷◌ (xor_bit a b 2) (ap₂ ◌∷◌ (xor_bit a b 1) (ap₂ ◌∷◌ (xor_bit a b 0) refl)))))))
 
 pub bits_added_holds : (a b : List ℕ) → bits (xor_bytes a b) ≡ add_bits (bits a) (bits b)
 unfolding bits xor_bytes add_bits

@@ -1,6 +1,7 @@
 // The laws of whole runs, over the definitions that the contracts of `runs` and `ceremony` cite. No program calls these
 // functions: each is there so that its contract demands the proof of a law.
 #![tactic(auto)]
+
 ghost use Rattle.laws.specs.Laws.{RefusedUnchanged, SealedFirst, RunsSound, SumOfOpenings, Independence, RunProtocols, Repeats};
 
 // A refused step changes nothing.

@@ -118,7 +118,7 @@ module _ (σ : Script) (r : Right σ) where
   unfolding list listed_all closed_all
   hash_is = ap (λ (ns : List (List ℕ)). sha256 (packed_rows ns)) list_names
 
-  sealing_starts : sealings.So-far σ.seals 0 closed_all
+  sealing_starts : sealings.SoFar σ.seals 0 closed_all
   unfolding listed_all closed_all
   sealing_starts =
       record {
@@ -128,8 +128,8 @@ module _ (σ : Script) (r : Right σ) where
         seals = λ j l. absurd (omega arith);
       }
 
-  all_sealed : sealings.All-sealed σ.seals r.few_parties r.each_seal 0 closed_all
-  all_sealed = sealings.seals-lead σ.seals r.few_parties r.each_seal (length σ.seals) 0 closed_all (omega arith) sealing_starts
+  all_sealed : sealings.AllSealed σ.seals r.few_parties r.each_seal 0 closed_all
+  all_sealed = sealings.seals_lead σ.seals r.few_parties r.each_seal (length σ.seals) 0 closed_all (omega arith) sealing_starts
 
   -- every party has sealed
   sealed_all : Sealed
@@ -143,7 +143,7 @@ module _ (σ : Script) (r : Right σ) where
   unfolding sealed_all
   seals = all_sealed.1
 
-  sealed_so : sealings.So-far σ.seals (length σ.seals) sealed_all
+  sealed_so : sealings.SoFar σ.seals (length σ.seals) sealed_all
   unfolding sealed_all
   sealed_so = all_sealed.2
 
@@ -157,7 +157,7 @@ module _ (σ : Script) (r : Right σ) where
   sealed_hash : sealed_all.list.hash ≡ hash_of σ
   sealed_hash = ap (λ (l : ClosedList). l.hash) sealed_list ∙ hash_is
 
-  opening_starts : openings.So-far σ.seals σ.openings [] σ.comes sealed_all
+  opening_starts : openings.SoFar σ.seals σ.openings [] σ.comes sealed_all
   opening_starts =
       let i = sealed_so.sound in
       let len : ℕ = sealed_all.list.length in
@@ -176,14 +176,14 @@ module _ (σ : Script) (r : Right σ) where
         count = none_counted memory len sealed_all.parties i.unopened;
       }
 
-  all_opened : openings.All-opened σ.seals σ.openings [] σ.comes sealed_all
-  all_opened = openings.openings-lead σ.seals σ.openings σ.comes [] sealed_all opening_starts
+  all_opened : openings.AllOpened σ.seals σ.openings [] σ.comes sealed_all
+  all_opened = openings.openings_lead σ.seals σ.openings σ.comes [] sealed_all opening_starts
 
   -- every opening that was to come has come
   opened_all : Sealed
   opened_all = all_opened.0
 
-  opened_so : openings.So-far σ.seals σ.openings σ.comes [] opened_all
+  opened_so : openings.SoFar σ.seals σ.openings σ.comes [] opened_all
   unfolding opened_all
   opened_so = all_opened.2
 

@@ -1,6 +1,7 @@
 // Whole draws: what the run of every script comes to, and that it favours nobody. No program calls these functions: each
 // is there so that its contract demands the proof of a theorem.
 #![tactic(auto)]
+
 ghost use Rattle.scripts.specs.Fair.{PrintsWhole, FairFile, SeldomNone};
 ghost use Rattle.scripts.specs.Made.{MadeBySteps};
 ghost use Rattle.scripts.specs.Whole.{RunsWhole};

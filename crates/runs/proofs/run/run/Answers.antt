@@ -21,10 +21,10 @@ returns-in-Cut c =
 pub loop-draw-smaller : goal.loop-draw-smaller
 loop-draw-smaller c =
     let i = c.loop-draw.invariant in
-    let p = goes_on _ _ _ _ _ _ _ _ _ i.1 _ _ _ c.in-Step.ensures _ _ c.in_ok-draw.ensures.state c.in_ok-draw.ensures.text in
+    let p = goes_on _ _ _ _ _ _ _ _ _ i.1 _ _ _ c.in-Step.ensures _ _ c.in_ok-draw-in-Step.ensures.state c.in_ok-draw-in-Step.ensures.text in
     omega (arith, p.0, p.1.1.within)
 
 pub loop-draw-preserved : goal.loop-draw-preserved
 loop-draw-preserved c =
     let i = c.loop-draw.invariant in
-    (goes_on _ _ _ _ _ _ _ _ _ i.1 _ _ _ c.in-Step.ensures _ _ c.in_ok-draw.ensures.state c.in_ok-draw.ensures.text).1
+    (goes_on _ _ _ _ _ _ _ _ _ i.1 _ _ _ c.in-Step.ensures _ _ c.in_ok-draw-in-Step.ensures.state c.in_ok-draw-in-Step.ensures.text).1
