@@ -1,5 +1,5 @@
 -- Entries, and the closing of the list, keep the state sound. Assumes nothing.
-use Rattle.std.proofs.Common.{◌≡◌, ℕ, ◌+◌, ◌*◌, ◌<◌, ◌≤◌, not, ◌||◌, eqb, ltb, List, ◌++◌, length, drop, replicate, Ok, Err, Result, sym, refl, ◌∙◌, subst, arith}
+use Rattle.std.proofs.Common.{◌≡◌, ℕ, ◌*◌, ◌<◌, ◌≤◌, not, ◌||◌, eqb, ltb, List, ◌++◌, length, drop, replicate, Ok, Err, Result, sym, refl, ◌∙◌, subst, arith}
 use Rattle.std.proofs.lemmas.List.{take_at, length-replicate, length-append}
 use Rattle.std.proofs.lemmas.Bool.{or_parts, ltb-false, eqb-false}
 use Rattle.refusals.specs.declared.Refusal.{Refusal}

@@ -1,5 +1,5 @@
 -- What stands where an order was drawn. Assumes nothing.
-use Rattle.std.proofs.Common.{◌≡◌, ℕ, ◌+◌, List, ◌++◌, length, Some, refl, ap, ◌∙◌, arith}
+use Rattle.std.proofs.Common.{◌≡◌, ℕ, List, ◌++◌, length, Some, refl, ap, ◌∙◌, arith}
 use Rattle.std.proofs.lemmas.List.{append-nil, drop_all}
 use Rattle.order.specs.declared.Outcome.TheVariants.{Drawn}
 use Rattle.order.specs.Drawings.{Drawing, drawn, run_out, outcome, left_in}

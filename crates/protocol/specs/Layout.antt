@@ -1,5 +1,5 @@
 -- Where the parts of a protocol stand in its bytes, with counts and lengths taken as they stand. Behind the last byte count zeros. Assumes nothing.
-use Rattle.std.specs.Prelude.{ℕ, zero, suc, ◌+◌, ◌-◌, ◌*◌, cond, List, map, take, drop, Some, None, ◌==◌, slice_index}
+use Rattle.std.specs.Prelude.{ℕ, zero, suc, ◌+◌, ◌*◌, cond, List, map, take, drop, Some, None, ◌==◌, slice_index}
 use Rattle.std.specs.List.{range_with_len}
 use Rattle.protocol.specs.Protocol.{Party}
 

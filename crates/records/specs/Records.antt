@@ -1,5 +1,5 @@
 -- What the parties' records tell of the openings. Assumes nothing.
-use Rattle.std.specs.Prelude.{ℕ, zero, suc, ◌+◌, cond, List, [], ◌∷◌, ◌++◌, drop}
+use Rattle.std.specs.Prelude.{ℕ, zero, suc, cond, List, [], ◌∷◌, ◌++◌, drop}
 use Rattle.seals.specs.Records.{has_opened, opening_in}
 
 -- the bits of the first n parties that have opened, in the order of the parties

@@ -1,5 +1,5 @@
 -- A file of steps that fit is a file of bytes. Assumes nothing.
-use Rattle.std.proofs.Common.{ℕ, suc, ◌+◌, ◌/◌, ◌%◌, ◌<◌, List, [], ◌∷◌, ◌++◌, map, length, get_or, arith}
+use Rattle.std.proofs.Common.{ℕ, suc, ◌/◌, ◌%◌, ◌<◌, List, [], ◌∷◌, ◌++◌, map, length, get_or, arith}
 use Rattle.protocol.specs.Draws.{Bytes}
 use Rattle.protocol.specs.Protocol.{word}
 use Rattle.step_file.specs.File.{step_bytes, file_of}

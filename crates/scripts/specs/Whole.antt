@@ -1,5 +1,5 @@
 -- What the run of a script comes to. Assumes nothing.
-use Rattle.std.specs.Prelude.{◌≡◌, ℕ, [], length}
+use Rattle.std.specs.Prelude.{◌≡◌, [], length}
 use Rattle.ceremony.specs.Model.{Ended}
 use Rattle.ceremony.specs.Draws.{ended}
 use Rattle.ceremony.specs.Steps.{opened_count}

@@ -1,4 +1,4 @@
-use Rattle.std.proofs.Common.{ℕ, map, length, Less, Equal, Greater, sym, ◌∙◌, arith}
+use Rattle.std.proofs.Common.{map, length, Less, Equal, Greater, sym, ◌∙◌, arith}
 use Rattle.std.proofs.lemmas.List.{length-map}
 use Rattle.entries.specs.Rows.{name_in}
 use Rattle.entries.specs.Place.{place}

@@ -1,4 +1,4 @@
-use Rattle.std.proofs.Common.{ℕ, [], ap, ◌∙◌}
+use Rattle.std.proofs.Common.{[], ap, ◌∙◌}
 use Rattle.sha256.specs.Sha256.{sha256}
 use Rattle.sha256.proofs.Laws.{parts_none, parts_more, parts_hash}
 use Rattle.seals.specs.Seal.{seal_of}

@@ -1,4 +1,4 @@
-use Rattle.std.proofs.Common.{ℕ, ◌-◌, Some, sym, ap, ◌∙◌, arith}
+use Rattle.std.proofs.Common.{◌-◌, Some, sym, ap, ◌∙◌, arith}
 use Rattle.order.specs.declared.Outcome.{Outcome}
 use Rattle.entries.proofs.Slots.{take_cut}
 use Rattle.ceremony.specs.Reports.{drawn_part}
