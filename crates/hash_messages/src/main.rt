@@ -1,11 +1,13 @@
 // Prints the SHA-256 hash of each message of a file, as a line of hexadecimal digits. In the file each message stands after
 // its length in four bytes, the low byte first.
 #![tactic(auto)]
+
 ghost use Rattle.std.specs.Prelude.{◌<◌, length, IfSome};
 
 use anyhow::anyhow;
 use std::alloc::Global;
 use std::fmt::Write;
+use std::process::ExitCode;
 use std::{env, fs};
 
 // The first message and what stands after it, unless the bytes end before it does.
@@ -54,22 +56,19 @@ fn run(rt: &HostRuntime) -> anyhow::Result<()> {
     }
     let bytes = match fs::read(rt, name.as_str()) {
         Ok(bytes) => bytes,
-        Err(e) => {
-            let text = format!(in rt.alloc(); "cannot read {name}: {e}")?;
-            return Err(text.into());
-        }
+        Err(e) => return Err(anyhow!("cannot read {name}: {e}")),
     };
     let text = hashes(rt.alloc(), bytes.as_slice())?;
     print!(rt; "{text}")?;
     Ok(())
 }
 
-fn main(rt: HostRuntime) -> anyhow::Result<()> {
+fn main(rt: HostRuntime) -> ExitCode {
     match run(&rt) {
-        Ok(()) => Ok(()),
+        Ok(()) => ExitCode::SUCCESS,
         Err(e) => {
-            eprintln!(rt; "hash_messages: {e}")?;
-            Err(e)
+            let _ = eprintln!(rt; "hash_messages: {e}");
+            ExitCode::FAILURE
         }
     }
 }

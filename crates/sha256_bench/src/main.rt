@@ -1,7 +1,10 @@
 // Hashes messages one after another, to see how long it takes: COUNT of them, or 16, of SIZE bytes, 32 to 8,192, or 8,192.
 // Each but the first begins with the hash of the one before, so that none can be left out, and the last hash is printed.
 #![tactic(auto)]
+
+use anyhow::anyhow;
 use std::env;
+use std::process::ExitCode;
 
 const USAGE: &str = "usage: sha256_bench [COUNT [SIZE]], SIZE from 32 to 8192";
 
@@ -22,7 +25,7 @@ fn number(text: Option<String>, otherwise: u64) -> anyhow::Result<u64> {
         return Ok(otherwise);
     };
     let Ok(number) = text.as_str().parse::<u64>() else {
-        return Err(USAGE.into());
+        return Err(anyhow!(USAGE));
     };
     Ok(number)
 }
@@ -33,7 +36,7 @@ fn run(rt: &HostRuntime) -> anyhow::Result<()> {
     let count = number(args.next(), 16)?;
     let size = number(args.next(), 8192)?;
     if size < 32 || size > 8192 {
-        return Err(USAGE.into());
+        return Err(anyhow!(USAGE));
     }
     let mut message = [97u8; 8192];
     for byte in last_hash(&mut message[0..size as usize], count) {
@@ -43,12 +46,12 @@ fn run(rt: &HostRuntime) -> anyhow::Result<()> {
     Ok(())
 }
 
-fn main(rt: HostRuntime) -> anyhow::Result<()> {
+fn main(rt: HostRuntime) -> ExitCode {
     match run(&rt) {
-        Ok(()) => Ok(()),
+        Ok(()) => ExitCode::SUCCESS,
         Err(e) => {
-            eprintln!(rt; "sha256_bench: {e}")?;
-            Err(e)
+            let _ = eprintln!(rt; "sha256_bench: {e}");
+            ExitCode::FAILURE
         }
     }
 }
