@@ -1,5 +1,6 @@
 // Draws the order of a few names from every row of a few bits, and prints how many rows give each order and how many give none.
 #![tactic(auto)]
+
 ghost use Rattle.std.specs.Prelude.{◌<◌, ◌≤◌};
 
 use anyhow::anyhow;
