@@ -1,7 +1,9 @@
 // draw STEPS [PROTOCOL]: runs a file of steps, prints what comes of it, and writes the protocol of a draw that ends.
 #![tactic(auto)]
+
 use anyhow::anyhow;
 use runs::{Ending, Report, draw};
+use std::process::ExitCode;
 use std::{env, fs};
 
 const USAGE: &str = "usage: draw STEPS [PROTOCOL]";
@@ -11,11 +13,11 @@ fn arguments(rt: &HostRuntime) -> anyhow::Result<(String, Option<String>)> {
     let mut words = env::args(rt)?;
     let _program = words.next();
     let Some(steps) = words.next() else {
-        return Err(USAGE.into());
+        return Err(anyhow!(USAGE));
     };
     let protocol = words.next();
     if words.next().is_some() {
-        return Err(USAGE.into());
+        return Err(anyhow!(USAGE));
     }
     Ok((steps, protocol))
 }
@@ -29,8 +31,7 @@ fn save(rt: &HostRuntime, path: &str, bytes: &[u8]) -> anyhow::Result<()> {
     };
     if let Err(e) = saved {
         let _ = fs::remove_file(rt, beside.as_str());
-        let text = format!(in rt.alloc(); "cannot write {path}: {e}")?;
-        return Err(text.into());
+        return Err(anyhow!("cannot write {path}: {e}"));
     }
     Ok(())
 }
@@ -66,21 +67,18 @@ fn run(rt: &HostRuntime) -> anyhow::Result<()> {
     }
     let file = match fs::read(rt, steps.as_str()) {
         Ok(file) => file,
-        Err(e) => {
-            let text = format!(in rt.alloc(); "cannot read {steps}: {e}")?;
-            return Err(text.into());
-        }
+        Err(e) => return Err(anyhow!("cannot read {steps}: {e}")),
     };
     let report = draw(rt.alloc(), file.as_slice())?;
     tell(rt, report, protocol_path)
 }
 
-fn main(rt: HostRuntime) -> anyhow::Result<()> {
+fn main(rt: HostRuntime) -> ExitCode {
     match run(&rt) {
-        Ok(()) => Ok(()),
+        Ok(()) => ExitCode::SUCCESS,
         Err(e) => {
             let _ = eprintln!(rt; "draw: {e}");
-            Err(e)
+            ExitCode::FAILURE
         }
     }
 }

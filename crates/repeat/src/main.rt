@@ -1,8 +1,10 @@
 // repeat PROTOCOL: checks the protocol of a draw, and prints what the draw printed at its end, or why the protocol is
 // refused. The status is 0 if it is accepted, else 1.
 #![tactic(auto)]
+
 use anyhow::anyhow;
 use protocol::repeat_text;
+use std::process::ExitCode;
 use std::{env, fs};
 
 const USAGE: &str = "usage: repeat PROTOCOL";
@@ -12,10 +14,10 @@ fn argument(rt: &HostRuntime) -> anyhow::Result<String> {
     let mut words = env::args(rt)?;
     let _program = words.next();
     let Some(word) = words.next() else {
-        return Err(USAGE.into());
+        return Err(anyhow!(USAGE));
     };
     if words.next().is_some() {
-        return Err(USAGE.into());
+        return Err(anyhow!(USAGE));
     }
     Ok(word)
 }
@@ -24,10 +26,7 @@ fn argument(rt: &HostRuntime) -> anyhow::Result<String> {
 fn repeat(rt: &HostRuntime, path: &str) -> anyhow::Result<bool> {
     let protocol = match fs::read(rt, path) {
         Ok(protocol) => protocol,
-        Err(e) => {
-            let text = format!(in rt.alloc(); "cannot read {path}: {e}")?;
-            return Err(text.into());
-        }
+        Err(e) => return Err(anyhow!("cannot read {path}: {e}")),
     };
     let (text, accepted) = repeat_text(rt.alloc(), protocol.as_slice())?;
     rt.print(text.as_str())?;
@@ -43,13 +42,13 @@ fn run(rt: &HostRuntime) -> anyhow::Result<bool> {
     repeat(rt, word.as_str())
 }
 
-fn main(rt: HostRuntime) -> anyhow::Result<()> {
+fn main(rt: HostRuntime) -> ExitCode {
     match run(&rt) {
-        Ok(true) => Ok(()),
-        Ok(false) => Err(anyhow!("refused")),
+        Ok(true) => ExitCode::SUCCESS,
+        Ok(false) => ExitCode::FAILURE,
         Err(e) => {
             let _ = eprintln!(rt; "repeat: {e}");
-            Err(e)
+            ExitCode::FAILURE
         }
     }
 }
