@@ -2,9 +2,11 @@
 // names, who opened and who was left out, the list's hash, the bits used; or the place of one name alone. The status is 0 if
 // the protocol is accepted and the name has a place, else 1.
 #![tactic(auto)]
+
 use anyhow::anyhow;
 use output::between;
 use report_text::{put_place, put_report};
+use std::process::ExitCode;
 use std::{env, fs};
 
 const USAGE: &str = "usage: report PROTOCOL [--find NAME]";
@@ -17,14 +19,14 @@ fn arguments(rt: &HostRuntime) -> anyhow::Result<(String, Option<String>)> {
     let mut words = env::args(rt)?;
     let _program = words.next();
     let Some(protocol) = words.next() else {
-        return Err(USAGE.into());
+        return Err(anyhow!(USAGE));
     };
     let Some(option) = words.next() else {
         return Ok((protocol, None));
     };
     let name = words.next();
     if option.as_str() != "--find" || name.is_none() || words.next().is_some() {
-        return Err(USAGE.into());
+        return Err(anyhow!(USAGE));
     }
     Ok((protocol, name))
 }
@@ -53,21 +55,18 @@ fn run(rt: &HostRuntime) -> anyhow::Result<bool> {
     }
     let protocol = match fs::read(rt, path.as_str()) {
         Ok(protocol) => protocol,
-        Err(e) => {
-            let text = format!(in rt.alloc(); "cannot read {path}: {e}")?;
-            return Err(text.into());
-        }
+        Err(e) => return Err(anyhow!("cannot read {path}: {e}")),
     };
     tell(rt, protocol.as_slice(), &name)
 }
 
-fn main(rt: HostRuntime) -> anyhow::Result<()> {
+fn main(rt: HostRuntime) -> ExitCode {
     match run(&rt) {
-        Ok(true) => Ok(()),
-        Ok(false) => Err(anyhow!("refused")),
+        Ok(true) => ExitCode::SUCCESS,
+        Ok(false) => ExitCode::FAILURE,
         Err(e) => {
             let _ = eprintln!(rt; "report: {e}");
-            Err(e)
+            ExitCode::FAILURE
         }
     }
 }

@@ -1,11 +1,13 @@
 // seal STEPS PARTY OPENING: the seal of a party's opening, for the list that is closed in a file of steps. It prints the
 // party's number, the seal in hex, and until when to keep the opening secret. The status is 0 if there is a seal, else 1.
 #![tactic(auto)]
+
 use anyhow::anyhow;
 use ceremony::Memory;
 use output::between;
 use runs::{Ending, draw};
 use seal_text::put_seal;
+use std::process::ExitCode;
 use std::{env, fs};
 
 const USAGE: &str = "usage: seal STEPS PARTY OPENING";
@@ -24,16 +26,16 @@ fn arguments(rt: &HostRuntime) -> anyhow::Result<(String, Option<(String, String
     let mut words = env::args(rt)?;
     let _program = words.next();
     let Some(steps) = words.next() else {
-        return Err(USAGE.into());
+        return Err(anyhow!(USAGE));
     };
     let Some(party) = words.next() else {
         return Ok((steps, None));
     };
     let Some(opening) = words.next() else {
-        return Err(USAGE.into());
+        return Err(anyhow!(USAGE));
     };
     if words.next().is_some() {
-        return Err(USAGE.into());
+        return Err(anyhow!(USAGE));
     }
     Ok((steps, Some((party, opening))))
 }
@@ -41,10 +43,7 @@ fn arguments(rt: &HostRuntime) -> anyhow::Result<(String, Option<(String, String
 fn read(rt: &HostRuntime, path: &str) -> anyhow::Result<Vec<u8>> {
     match fs::read(rt, path) {
         Ok(bytes) => Ok(bytes),
-        Err(e) => {
-            let text = format!(in rt.alloc(); "cannot read {path}: {e}")?;
-            Err(text.into())
-        }
+        Err(e) => Err(anyhow!("cannot read {path}: {e}")),
     }
 }
 
@@ -85,7 +84,7 @@ fn run(rt: &HostRuntime) -> anyhow::Result<bool> {
         return Ok(true);
     }
     let Some((number, path)) = rest else {
-        return Err(USAGE.into());
+        return Err(anyhow!(USAGE));
     };
     let Ok(party) = number.as_str().parse::<u8>() else {
         return Err(anyhow!("a party has a number from 0 to 254"));
@@ -95,13 +94,13 @@ fn run(rt: &HostRuntime) -> anyhow::Result<bool> {
     tell(rt, file.as_slice(), party, opening.as_slice())
 }
 
-fn main(rt: HostRuntime) -> anyhow::Result<()> {
+fn main(rt: HostRuntime) -> ExitCode {
     match run(&rt) {
-        Ok(true) => Ok(()),
-        Ok(false) => Err(anyhow!("there is no seal")),
+        Ok(true) => ExitCode::SUCCESS,
+        Ok(false) => ExitCode::FAILURE,
         Err(e) => {
             let _ = eprintln!(rt; "seal: {e}");
-            Err(e)
+            ExitCode::FAILURE
         }
     }
 }

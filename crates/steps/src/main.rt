@@ -1,10 +1,12 @@
 // steps TEXT STEPS: reads a text for people, and writes the file of steps that it says.
 // steps --show STEPS: prints a file of steps as such a text.
 #![tactic(auto)]
+
 use anyhow::anyhow;
 use names_text::is_text;
 use notation::{BadLine, NamedFile, next_file, put_bad_line, read, show};
 use std::alloc::{AllocError, Global};
+use std::process::ExitCode;
 use std::str::from_utf8;
 use std::{env, fs};
 
@@ -15,11 +17,11 @@ fn arguments(rt: &HostRuntime) -> anyhow::Result<(String, Option<String>)> {
     let mut words = env::args(rt)?;
     let _program = words.next();
     let Some(first) = words.next() else {
-        return Err(USAGE.into());
+        return Err(anyhow!(USAGE));
     };
     let second = words.next();
     if words.next().is_some() {
-        return Err(USAGE.into());
+        return Err(anyhow!(USAGE));
     }
     Ok((first, second))
 }
@@ -27,10 +29,7 @@ fn arguments(rt: &HostRuntime) -> anyhow::Result<(String, Option<String>)> {
 fn read_file(rt: &HostRuntime, path: &str) -> anyhow::Result<Vec<u8>> {
     match fs::read(rt, path) {
         Ok(bytes) => Ok(bytes),
-        Err(e) => {
-            let text = format!(in rt.alloc(); "cannot read {path}: {e}")?;
-            Err(text.into())
-        }
+        Err(e) => Err(anyhow!("cannot read {path}: {e}")),
     }
 }
 
@@ -43,8 +42,7 @@ fn save(rt: &HostRuntime, path: &str, bytes: &[u8]) -> anyhow::Result<()> {
     };
     if let Err(e) = saved {
         let _ = fs::remove_file(rt, beside.as_str());
-        let text = format!(in rt.alloc(); "cannot write {path}: {e}")?;
-        return Err(text.into());
+        return Err(anyhow!("cannot write {path}: {e}"));
     }
     Ok(())
 }
@@ -86,8 +84,8 @@ fn told(bad: BadLine) -> anyhow::Error {
     let mut words = [0; 120];
     let end = put_bad_line(&mut words, 0, bad).min(120);
     match from_utf8(&words[0..end]) {
-        Ok(text) => text.into(),
-        Err(_) => "a bad line".into(),
+        Ok(text) => anyhow!("{text}"),
+        Err(_) => anyhow!("a bad line"),
     }
 }
 
@@ -134,7 +132,7 @@ fn run(rt: &HostRuntime) -> anyhow::Result<()> {
         return Ok(());
     }
     let Some(path) = second else {
-        return Err(USAGE.into());
+        return Err(anyhow!(USAGE));
     };
     if first.as_str() == "--show" {
         let file = read_file(rt, path.as_str())?;
@@ -148,12 +146,12 @@ fn run(rt: &HostRuntime) -> anyhow::Result<()> {
     save(rt, path.as_str(), steps.as_slice())
 }
 
-fn main(rt: HostRuntime) -> anyhow::Result<()> {
+fn main(rt: HostRuntime) -> ExitCode {
     match run(&rt) {
-        Ok(()) => Ok(()),
+        Ok(()) => ExitCode::SUCCESS,
         Err(e) => {
             let _ = eprintln!(rt; "steps: {e}");
-            Err(e)
+            ExitCode::FAILURE
         }
     }
 }
