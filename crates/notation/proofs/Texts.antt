@@ -1,6 +1,6 @@
 -- A text read line by line. Assumes nothing.
 use Rattle.std.proofs.Common.{◌≡◌, ℕ, suc, ◌+◌, ◌/◌, ◌%◌, ◌<◌, ◌≤◌, Bool, cond, eqb, ltb, List, [], ◌∷◌, ◌++◌, length, take, drop, sym, refl, ap, ◌∙◌, subst, append_assoc, append-nil, arith, lit<}
-use lib.Dec.{leb_suc_suc}
+use Rattle.std.proofs.Math.Dec.{leb-suc-suc}
 use Rattle.std.proofs.lemmas.List.{drop_all, drop-drop, length-drop}
 use Rattle.std.proofs.lemmas.Bool.{cond_both, ltb-true}
 use Rattle.output.specs.Output.{put}
@@ -32,7 +32,7 @@ pub digits_fit : (ds : List ℕ) → ltb (length ds / 2) 65536 ≡ ltb (length (
 digits_fit ds = ap (λ (n : ℕ). ltb n 65536) (sym (length_bytes ds))
 
 pub opening_fits : (ds : List ℕ) → ltb (length ds / 2) 65535 ≡ ltb (suc (length (bytes_of ds))) 65536
-opening_fits ds = sym (leb_suc_suc (suc (length ds / 2)) 65535) ∙ ap (λ (n : ℕ). ltb (suc n) 65536) (sym (length_bytes ds))
+opening_fits ds = sym (leb-suc-suc (suc (length ds / 2)) 65535) ∙ ap (λ (n : ℕ). ltb (suc n) 65536) (sym (length_bytes ds))
 
 -- a line that is filled is short enough
 pub filled_short : (files : List ℕ) (at : ℕ) (m : Meaning) → size_of (filled files at m).0 < 65536

@@ -14,6 +14,7 @@
 //
 // A carriage return at the end of a line is passed over. Blank lines and lines that begin with # mean nothing.
 #![tactic(auto)]
+
 ghost use Rattle.std.specs.Prelude.{◌≡◌, false, []};
 ghost use Rattle.notation.specs.Laws.{ShownRead, WholeRead};
 ghost use Rattle.notation.specs.Read.{read_text, written, answered};

@@ -8,11 +8,11 @@ use Rattle.notation.proofs.Named.{named_all, named_more, named_here}
 use Rattle.notation.proofs.Places.{place_within}
 use Rattle.notation.proofs.paths.next_file.Goals as goal
 
-pub overflow-add-next : goal.overflow-add-next
-overflow-add-next c = omega (arith, place_within 10 c.behind-rest.result.now, ap length c.behind-rest.ensures, length-drop c.loop-from.from c.args.text.now, c.place_of-size.ensures)
+pub overflow_add-next : goal.overflow_add-next
+overflow_add-next c = omega (arith, place_within 10 c.behind-rest.result.now, ap length c.behind-rest.ensures, length-drop c.loop-from.from c.args.text.now, c.place_of-size.ensures)
 
-pub overflow-add-next-in-loop-from : goal.overflow-add-next-in-loop-from
-overflow-add-next-in-loop-from c = omega (arith, place_within 10 c.behind-rest.result.now, ap length c.behind-rest.ensures, length-drop c.loop-from.from c.args.text.now, c.place_of-size.ensures)
+pub overflow_add-next-in-loop-from : goal.overflow_add-next-in-loop-from
+overflow_add-next-in-loop-from c = omega (arith, place_within 10 c.behind-rest.result.now, ap length c.behind-rest.ensures, length-drop c.loop-from.from c.args.text.now, c.place_of-size.ensures)
 
 pub returns-in-File : goal.returns-in-File
 returns-in-File c =

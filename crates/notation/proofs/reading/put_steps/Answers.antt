@@ -10,8 +10,8 @@ use Rattle.notation.proofs.reading.put_steps.Goals as goal
 pub loop-at-init : goal.loop-at-init
 loop-at-init c = steps_none c.args.text.now c.args.files.now c.args.out.now
 
-pub overflow-add-result : goal.overflow-add-result
-overflow-add-result c = omega (arith, c.loop-at.invariant.3)
+pub overflow_add-result : goal.overflow_add-result
+overflow_add-result c = omega (arith, c.loop-at.invariant.3)
 
 pub returns-in-Bad : goal.returns-in-Bad
 returns-in-Bad c =
@@ -24,14 +24,14 @@ pub put_line-place-requires : goal.put_line-place-requires
 put_line-place-requires c =
     subst (λ (z : Meaning × ℕ). size_of z.0 < 65536) (sym c.fill-next.ensures) (filled_short c.args.files.now c.loop-at.file (meant c.parse.result))
 
-pub overflow-add-done : goal.overflow-add-done
-overflow-add-done c = omega (arith, c.loop-at.invariant.3)
+pub overflow_add-done : goal.overflow_add-done
+overflow_add-done c = omega (arith, c.loop-at.invariant.3)
 
-pub overflow-add-at : goal.overflow-add-at
-overflow-add-at c = omega (arith, place_within 10 c.behind-rest.result.now, ap length c.behind-rest.ensures, length-drop c.loop-at.at c.args.text.now, c.place_of-end.ensures)
+pub overflow_add-at : goal.overflow_add-at
+overflow_add-at c = omega (arith, place_within 10 c.behind-rest.result.now, ap length c.behind-rest.ensures, length-drop c.loop-at.at c.args.text.now, c.place_of-end.ensures)
 
-pub overflow-add-at-in-loop-at : goal.overflow-add-at-in-loop-at
-overflow-add-at-in-loop-at c = omega (arith, place_within 10 c.behind-rest.result.now, ap length c.behind-rest.ensures, length-drop c.loop-at.at c.args.text.now, c.place_of-end.ensures)
+pub overflow_add-at-in-loop-at : goal.overflow_add-at-in-loop-at
+overflow_add-at-in-loop-at c = omega (arith, place_within 10 c.behind-rest.result.now, ap length c.behind-rest.ensures, length-drop c.loop-at.at c.args.text.now, c.place_of-end.ensures)
 
 pub loop-at-preserved : goal.loop-at-preserved
 loop-at-preserved c =
