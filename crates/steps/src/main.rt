@@ -84,7 +84,7 @@ fn told(bad: BadLine) -> anyhow::Error {
     let mut words = [0; 120];
     let end = put_bad_line(&mut words, 0, bad).min(120);
     match from_utf8(&words[0..end]) {
-        Ok(text) => anyhow!("{text}"),
+        Ok(text) => anyhow!(text),
         Err(_) => anyhow!("a bad line"),
     }
 }
@@ -146,6 +146,7 @@ fn run(rt: &HostRuntime) -> anyhow::Result<()> {
     save(rt, path.as_str(), steps.as_slice())
 }
 
+// An error that `main` returned would be printed a second time, so it answers with a status.
 fn main(rt: HostRuntime) -> ExitCode {
     match run(&rt) {
         Ok(()) => ExitCode::SUCCESS,
