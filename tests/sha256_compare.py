@@ -3,14 +3,14 @@
 
     tests/sha256_compare.py [PROGRAM]
 
-PROGRAM is target/bin/hash_messages of this repository unless another is given. It is run on one file with no bytes, "abc",
+PROGRAM is hash_messages of this repository unless another is given. It is run on one file with no bytes, "abc",
 a message of each length from 0 to 200, and random ones of up to 20,000 bytes. Prints how many agree; status 1 if one
 does not, or if the program takes a file that it should refuse.
 """
 import hashlib, os, random, shutil, struct, subprocess, sys, tempfile
 
 root = os.path.dirname(os.path.dirname(os.path.abspath(__file__)))
-program = os.path.abspath(sys.argv[1]) if len(sys.argv) > 1 else os.path.join(root, "target", "bin", "hash_messages")
+program = os.path.abspath(sys.argv[1]) if len(sys.argv) > 1 else os.path.join(root, "crates", "hash_messages", "out", "hash_messages")
 SEED = 180
 RANDOM = 2000
 

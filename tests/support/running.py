@@ -18,7 +18,7 @@ def programs(description, *wanted):
     """The paths of the programs under test: built ones, or those named on the command line."""
     parser = argparse.ArgumentParser(description=description)
     for name in wanted:
-        built = os.path.join(ROOT, "target", "bin", name)
+        built = os.path.join(ROOT, "crates", name, "out", name)
         parser.add_argument(f"--{name}", default=built, help=f"the program to test (default: {built})")
     parser.add_argument("--first", action="store_true", help="stop at the first difference")
     paths = parser.parse_args()

@@ -1,6 +1,6 @@
 -- The drawing of an order in the front of a slice. Assumes nothing.
 use borrow.Rule.Slice.PartMut.{post_of}
-use Rattle.std.proofs.Common.{◌≡◌, ℕ, ◌+◌, ◌-◌, ◌^◌, ◌<◌, ◌≤◌, min, Bool, true, false, cond, ltb, List, ◌++◌, length, take, drop, Some, None, sym, refl, ap, ◌∙◌, subst, ap₂, arith}
+use Rattle.std.proofs.Common.{◌≡◌, ℕ, ◌-◌, ◌^◌, ◌<◌, ◌≤◌, min, Bool, true, false, cond, ltb, List, ◌++◌, length, take, drop, Some, None, sym, refl, ap, ◌∙◌, subst, ap₂, arith}
 use Rattle.order.proofs.Names.{length_from}
 use Rattle.order.proofs.Rests.{Answer, told_none, told_some, left_out, left_names}
 use Rattle.order.proofs.Turns.{drawing_length, drawing_numbers}

@@ -1,5 +1,5 @@
 -- Bytes written one after another into memory that may be full. Assumes nothing.
-use Rattle.std.specs.Prelude.{ℕ, ◌+◌, ◌-◌, cond, List, [], ◌∷◌, length, take, drop, set, nat_lt, slice_set}
+use Rattle.std.specs.Prelude.{ℕ, ◌+◌, ◌-◌, cond, List, [], ◌∷◌, length, take, drop, nat_lt, slice_set}
 
 -- memory and the place of the next byte: the byte is set, and the place moves on; full memory stays as it is
 abbrev pub put_byte : List ℕ × ℕ → ℕ → List ℕ × ℕ

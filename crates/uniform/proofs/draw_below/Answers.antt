@@ -1,4 +1,4 @@
-use Rattle.std.proofs.Common.{suc, ◌+◌, ◌-◌, length, drop, sym, refl, ap, ◌∙◌, ⊎_elim, arith}
+use Rattle.std.proofs.Common.{suc, ◌+◌, length, drop, sym, refl, ap, ◌∙◌, ⊎_elim, arith}
 use Rattle.std.proofs.lemmas.List.{length-drop}
 use Rattle.uniform.proofs.Bits.{length_bits}
 use Rattle.uniform.proofs.draw_below.Goals as goal
