@@ -2,6 +2,7 @@
 use Rattle.std.specs.Prelude.{ℕ, cond, List, Some, None, Ok, Err, Option, Result, ◌==◌}
 use Rattle.refusals.specs.declared.Refusal.{Refusal}
 use Rattle.refusals.specs.declared.Refusal.TheVariants.{WrongTime}
+use Rattle.ceremony.specs.declared.memory.ClosedList.{ClosedList}
 use Rattle.ceremony.specs.declared.step.Draw.{Draw}
 use Rattle.ceremony.specs.declared.step.Draw.TheVariants.{Listing, Sealing, Opening, Finished}
 use Rattle.ceremony.specs.Model.{Held, Listed, Sealed, Ended, as_listed, as_sealed, as_opened, as_ended}
@@ -19,6 +20,13 @@ state (Listing s) = listing (as_listed s)
 state (Sealing s) = sealing (as_sealed s)
 state (Opening s) = opening (as_opened s)
 state (Finished s) = ended (as_ended s)
+
+-- the list, once it is closed
+abbrev pub closed_list : State → Option ClosedList
+closed_list (listing s) = None
+closed_list (sealing s) = Some s.list
+closed_list (opening s) = Some s.list
+closed_list (ended s) = Some s.list
 
 -- the state after a step, and why it was refused if it was
 abbrev pub why : Result (Unit {0}) Refusal → Option Refusal

@@ -1,11 +1,11 @@
 // A draw in any of its phases, and one step of it.
 ghost use Rattle.std.specs.Prelude.{◌≡◌};
-ghost use Rattle.ceremony.specs.Draws.{State, listing, sealing, opening, ended, state, step};
+ghost use Rattle.ceremony.specs.Draws.{State, closed_list, listing, sealing, opening, ended, state, step};
 ghost use Rattle.ceremony.specs.Model.{as_listed, as_sealed, as_opened, as_ended};
 
 use crate::finished::Finished;
 use crate::listing::Listing;
-use crate::memory::out_of_time;
+use crate::memory::{ClosedList, out_of_time};
 use crate::opening::Opening;
 use crate::sealing::Sealing;
 use refusals::Refusal;
@@ -72,6 +72,18 @@ fn in_opening<'a>(s: Opening<'a>, kind: u8, bytes: &[u8]) -> (Draw<'a>, Option<R
 }
 
 impl<'a> Draw<'a> {
+    // What is known of the list, once it is closed.
+    pub fn closed_list(&self) -> Option<ClosedList>
+        ensures { result ≡ closed_list (state self.now) }
+    {
+        match self {
+            Draw::Listing(_) => None,
+            Draw::Sealing(s) => Some(s.list),
+            Draw::Opening(s) => Some(s.list),
+            Draw::Finished(s) => Some(s.list),
+        }
+    }
+
     // One step of the draw: the state after it, and why it was refused if it was.
     pub fn step(self, kind: u8, bytes: &[u8]) -> (Draw<'a>, Option<Refusal>)
         ensures state { state result.0 ≡ (step (state self.entry) kind bytes.now).0 }

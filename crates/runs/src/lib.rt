@@ -2,9 +2,11 @@
 //
 // `draw` is all that the program of that name does between reading its file and printing: the memory of the draw, every
 // step of the file, the lines for the refusals, the summary and the parties left out, and the bytes of the protocol.
+// `run::run` goes only to the last state, over memory that the caller lends; it stands in its module since a crate can't
+// have a module and a function of one name.
 #![tactic(auto)]
 
 mod report;
-mod run;
+pub mod run;
 
 pub use report::{Ending, Report, draw};

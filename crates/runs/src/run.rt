@@ -28,8 +28,9 @@ fn take_step<'a>(
     Ok(next)
 }
 
-// All steps of a file: the state after them, whether the file ends inside a step, and a line for each refusal.
-pub(crate) fn run<'a>(
+// All steps of a file: the state after them, whether the file ends inside a step, and a line for each refusal, put behind
+// the text. On an `AllocError` the draw is gone, and the text may hold some of the lines.
+pub fn run<'a>(
     start: Draw<'a>,
     file: &[u8],
     text: &mut String,
