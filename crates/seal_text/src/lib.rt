@@ -1,5 +1,6 @@
 // What a party is told that asks for its seal: its number, the seal, and until when to keep the opening secret.
 #![tactic(auto)]
+
 ghost use Rattle.std.specs.Prelude.{◌≡◌};
 ghost use Rattle.ceremony.specs.Draws.{closed_list, state};
 ghost use Rattle.output.specs.Output.{put};
