@@ -3,9 +3,8 @@
 #![tactic(auto)]
 
 use anyhow::anyhow;
-use ceremony::Memory;
+use ceremony::{Draw, Listing, Memory};
 use output::between;
-use runs::{Ending, draw};
 use seal_text::put_seal;
 use std::process::ExitCode;
 use std::{env, fs};
@@ -62,11 +61,13 @@ fn tell(rt: &HostRuntime, file: &[u8], party: u8, opening: &[u8]) -> anyhow::Res
         bits: bits.as_mut_slice(),
         order: order.as_mut_slice(),
     };
-    let mut text = vec![in heap; 0u8; TEXT]?;
-    let (last, report) = draw(memory, file, text.as_mut_slice());
-    if let Ending::Cut = report.ending {
+    // The lines for refused steps are not printed: the party asks for its seal alone.
+    let mut refusals = String::new(heap);
+    let (last, cut) = runs::run::run(Draw::Listing(Listing::begin(memory)), file, &mut refusals)?;
+    if cut {
         return Err(anyhow!("the file of steps ends inside a step"));
     }
+    let mut text = vec![in heap; 0u8; TEXT]?;
     let (end, sealed) = put_seal(text.as_mut_slice(), 0, &last, party, opening);
     let told = between(text.as_slice(), 0, end);
     if sealed {
