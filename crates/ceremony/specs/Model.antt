@@ -4,7 +4,7 @@ use Rattle.refusals.specs.declared.Refusal.{Refusal}
 use Rattle.order.specs.declared.Outcome.{Outcome}
 use Rattle.ceremony.specs.declared.memory.Memory.{Memory}
 use Rattle.ceremony.specs.declared.memory.ClosedList.{ClosedList}
-use Rattle.ceremony.specs.declared.listing.Listing.{Listing}
+use Rattle.ceremony.specs.declared.entering.Listing.{Listing}
 use Rattle.ceremony.specs.declared.sealing.Sealing.{Sealing}
 use Rattle.ceremony.specs.declared.opening.Opening.{Opening}
 use Rattle.ceremony.specs.declared.finished.Finished.{Finished}

@@ -5,15 +5,15 @@
 // memory is lent by the caller and held together.
 #![tactic(auto)]
 
+mod entering;
 mod finished;
-mod listing;
 mod memory;
 mod opening;
 mod sealing;
 mod step;
 
+pub use entering::Listing;
 pub use finished::Finished;
-pub use listing::Listing;
 pub use memory::{ClosedList, Memory};
 pub use opening::Opening;
 pub use sealing::Sealing;

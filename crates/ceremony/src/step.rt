@@ -3,8 +3,8 @@ ghost use Rattle.std.specs.Prelude.{◌≡◌};
 ghost use Rattle.ceremony.specs.Draws.{State, closed_list, listing, sealing, opening, ended, state, step};
 ghost use Rattle.ceremony.specs.Model.{as_listed, as_sealed, as_opened, as_ended};
 
+use crate::entering::Listing;
 use crate::finished::Finished;
-use crate::listing::Listing;
 use crate::memory::{ClosedList, out_of_time};
 use crate::opening::Opening;
 use crate::sealing::Sealing;
