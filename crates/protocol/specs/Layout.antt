@@ -1,5 +1,5 @@
 -- Where the parts of a protocol stand in its bytes, with counts and lengths taken as they stand. Behind the last byte count zeros. Assumes nothing.
-use Rattle.std.specs.Prelude.{ℕ, zero, suc, ◌+◌, ◌*◌, cond, List, map, take, drop, Some, None, ◌==◌, slice_index}
+use Rattle.std.specs.Prelude.{ℕ, zero, suc, ◌+◌, ◌*◌, Bool, cond, List, map, take, drop, Some, None, ◌==◌, slice_index}
 use Rattle.std.specs.List.{range_with_len}
 use Rattle.protocol.specs.Protocol.{Party}
 
@@ -52,6 +52,10 @@ party_in bytes L at =
 
 abbrev pub party_of : List ℕ → ℕ → Party
 party_of bytes k = party_in bytes (bits_length bytes) (party_at bytes k)
+
+-- whether it opened
+abbrev pub opened_in : List ℕ → ℕ → Bool
+opened_in bytes k = slice_index bytes (party_at bytes k + 32) == 1
 
 abbrev pub parties_of : List ℕ → List Party
 parties_of bytes = map (party_of bytes) (range_with_len 0 (party_count bytes))

@@ -65,7 +65,7 @@ impl Layout {
 }
 
 // The place behind the names.
-fn names_end(bytes: &[u8], names: u16) -> usize
+pub(crate) fn names_end(bytes: &[u8], names: u16) -> usize
     ensures is { result ≡ name_at bytes.now names }
     ensures least { 2 ≤ result }
     ensures small { result ≤ 2 + 256 * names }
@@ -92,7 +92,7 @@ pub(crate) fn party_end(bytes: &[u8], at: usize, length: u16) -> usize
 }
 
 // The place behind the parties.
-fn parties_end(bytes: &[u8], first: usize, length: u16, parties: u8) -> usize
+pub(crate) fn parties_end(bytes: &[u8], first: usize, length: u16, parties: u8) -> usize
     requires first { first ≡ length_at bytes.now + 3 }
     requires bits { length ≡ bits_length bytes.now }
     requires near { first ≤ 2 ^ 32 + 3 }

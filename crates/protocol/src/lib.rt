@@ -12,6 +12,7 @@ ghost use Rattle.protocol.specs.Check.{checked, verdict, early_fault};
 ghost use Rattle.protocol.specs.Laid.{LaidOut};
 ghost use Rattle.protocol.specs.Draws.{AcceptsDrawn, AcceptsOnlyDrawn};
 ghost use Rattle.protocol.specs.Finished.{protocol_of};
+ghost use Rattle.protocol.specs.Numbers.{bits_used};
 ghost use Rattle.protocol.specs.Protocol.{written};
 ghost use Rattle.protocol.specs.Texts.{verdict_text, is_accepted, refused_line, RepeatsDrawn, RepeatsOnlyDrawn};
 
@@ -24,8 +25,11 @@ mod bytes;
 mod layout;
 mod openings;
 mod orders;
+mod parts;
 mod ranges;
 mod writing;
+
+pub use parts::{bits_length, has_opened, list_hash, name};
 
 // Accepted, with the numbers of names, of parties and of those that opened, and the order if there is one; or refused.
 #[derive(Drop)]
@@ -78,6 +82,18 @@ fn early_fault(protocol: &[u8], layout: Layout) -> Option<Refusal>
         return Some(Refusal::BadOpening(party));
     }
     None
+}
+
+// How many bits are used for the order that is drawn, if there is one. Nothing is drawn where the first three passes
+// refuse the protocol.
+pub fn bits_used(heap: Global, protocol: &[u8]) -> Result<Option<usize>, AllocError>
+    ensures { IfOk result (λ u. u ≡ bits_used protocol.now) }
+{
+    let layout = Layout::of(protocol);
+    if early_fault(protocol, layout).is_some() {
+        return Ok(None);
+    }
+    orders::bits_read(heap, protocol, layout)
 }
 
 // The protocol of a finished draw, from its memory: the slots and the index of the names, how many they are, how many

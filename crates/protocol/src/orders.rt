@@ -4,6 +4,7 @@ ghost use Rattle.std.specs.Prelude.{◌≡◌, ◌+◌, ◌*◌, ◌^◌, ◌<�
 ghost use Rattle.protocol.specs.Check.{drawing_of, order_fault};
 ghost use Rattle.protocol.specs.Laid.{LaidOut};
 ghost use Rattle.protocol.specs.Layout.{bits_length, parties_of, numbers_at, order_at};
+ghost use Rattle.protocol.specs.Numbers.{bits_read};
 ghost use Rattle.protocol.specs.Protocol.{openings, ordered};
 ghost use Rattle.std.specs.Option.{option_map};
 ghost use Rattle.std.specs.Str.{bytes_eq};
@@ -39,6 +40,23 @@ pub(crate) fn draw(
     let mut order = vec![in heap; 0; layout.names as usize]?;
     match draw_order(&mut order, &sum, 0) {
         Outcome::Drawn { .. } => Ok(Some(order)),
+        Outcome::RunOut => Ok(None),
+    }
+}
+
+// How many bits are read for the order that is drawn, if there is one.
+pub(crate) fn bits_read(
+    heap: Global,
+    bytes: &[u8],
+    layout: Layout,
+) -> Result<Option<usize>, AllocError>
+    requires { LaidOut bytes.now layout }
+    ensures { IfOk result (λ u. u ≡ bits_read (drawing_of bytes.now)) }
+{
+    let sum = sum_of_bits(heap, bytes, layout)?;
+    let mut order = vec![in heap; 0; layout.names as usize]?;
+    match draw_order(&mut order, &sum, 0) {
+        Outcome::Drawn { used } => Ok(Some(used)),
         Outcome::RunOut => Ok(None),
     }
 }

@@ -17,7 +17,7 @@ const LEAST_BITS: u16 = 64;
 const MOST_BITS: u16 = 8192;
 
 // The name that stands at a place, after its length.
-fn name_at(bytes: &[u8], at: usize) -> &[u8]
+pub(crate) fn name_at(bytes: &[u8], at: usize) -> &[u8]
     requires { at + 1 < 2 ^ 64 }
     ensures { result.now ≡ name_in bytes.now at }
 {
