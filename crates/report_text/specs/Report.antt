@@ -7,7 +7,7 @@ use Rattle.output.specs.Hex.{hex}
 use Rattle.refusals.specs.Numbered.{number, place}
 use Rattle.refusals.specs.declared.Refusal.{Refusal}
 use Rattle.protocol.specs.Check.{Verdict, accepted, refused, verdict, drawing_of, hash_of}
-use Rattle.protocol.specs.Layout.{name_of, Opened-in, bits_length}
+use Rattle.protocol.specs.Layout.{name_of, opened_in, bits_length}
 use Rattle.protocol.specs.Numbers.{bits_read}
 
 -- 5 names, 3 parties, 2 opened
@@ -17,7 +17,7 @@ counts_line names parties opened =
 
 -- party 1 opened, or: party 1 left out
 abbrev pub party_line : List ℕ → ℕ → List ℕ
-party_line bytes k = codes "party " ++ (decimal k ++ cond (Opened-in bytes k) (codes " opened\n") (codes " left out\n"))
+party_line bytes k = codes "party " ++ (decimal k ++ cond (opened_in bytes k) (codes " opened\n") (codes " left out\n"))
 
 abbrev pub party_lines : List ℕ → ℕ → List ℕ
 party_lines bytes parties = flat_map (λ (x : List ℕ). x) (map (party_line bytes) (range_with_len 0 parties))

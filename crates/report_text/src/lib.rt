@@ -1,7 +1,8 @@
 // What is told of a protocol in words for people: who is at which place, who opened, and what it was drawn from.
 #![tactic(auto)]
-mod order;
+
 mod parties;
+mod places;
 mod refused;
 mod report;
 

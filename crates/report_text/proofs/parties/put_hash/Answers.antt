@@ -7,6 +7,6 @@ use Rattle.report_text.proofs.parties.put_hash.Goals as goal
 
 pub returns : goal.returns
 returns c =
-    let m : List ℕ × ℕ = (c.put_hash-at.new.out, c.put_hash-at.result) in
-    put_then _ (codes "list hash ") _ c.put_hash-at.ensures
+    let m : List ℕ × ℕ = (c.put-hash_at.new.out, c.put-hash_at.result) in
+    put_then _ (codes "list hash ") _ c.put-hash_at.ensures
     (put_then m (hex (hash_of c.args.protocol.now)) _ (c.put_hex-hash_end.ensures ∙ ap (λ (x : List ℕ). put m (hex x)) c.list_hash.ensures) c.put.ensures)

@@ -9,5 +9,5 @@ returns-in_default c = c.put.ensures ∙ ap (λ (u : Option ℕ). put (c.args.ou
 
 pub returns : goal.returns
 returns c =
-    put_then _ (codes "bits used ") _ c.put_used-at.ensures (put_then _ (decimal c.in-Some.used) _ c.put_decimal-used_end.ensures c.put-2.ensures)
+    put_then _ (codes "bits used ") _ c.put-used_at.ensures (put_then _ (decimal c.in-Some.used) _ c.put_decimal-used_end.ensures c.put-2.ensures)
     ∙ ap (λ (u : Option ℕ). put (c.args.out.now, c.args.at) (bits_words u)) (sym c.in-Some.is)

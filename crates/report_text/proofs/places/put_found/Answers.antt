@@ -1,7 +1,7 @@
 use Rattle.std.proofs.Common.{ℕ, Option, sym, ap, ◌∙◌}
 use Rattle.output.specs.Output.{put}
 use Rattle.report_text.specs.Report.{place_told}
-use Rattle.report_text.proofs.order.put_found.Goals as goal
+use Rattle.report_text.proofs.places.put_found.Goals as goal
 
 pub returns-in-None : goal.returns-in-None
 returns-in-None c =

@@ -4,7 +4,7 @@ use Rattle.output.proofs.Puts.{put_turn, put_done}
 use Rattle.output.specs.Output.{put}
 use Rattle.protocol.specs.Layout.{name_of}
 use Rattle.report_text.specs.Report.{place_line, place_lines}
-use Rattle.report_text.proofs.order.put_places.Goals as goal
+use Rattle.report_text.proofs.places.put_places.Goals as goal
 
 pub loop-k-preserved : goal.loop-k-preserved
 loop-k-preserved c =
