@@ -35,8 +35,14 @@ fn arguments(rt: &HostRuntime) -> anyhow::Result<(String, Option<String>)> {
 fn tell(rt: &HostRuntime, protocol: &[u8], name: &Option<String>) -> anyhow::Result<bool> {
     let mut text = vec![in rt.alloc(); 0u8; TEXT]?;
     let (end, well) = match name {
-        Some(name) => put_place(text.as_mut_slice(), 0, protocol, name.as_bytes()),
-        None => put_report(text.as_mut_slice(), 0, protocol),
+        Some(name) => put_place(
+            rt.alloc(),
+            text.as_mut_slice(),
+            0,
+            protocol,
+            name.as_bytes(),
+        )?,
+        None => put_report(rt.alloc(), text.as_mut_slice(), 0, protocol)?,
     };
     let told = between(text.as_slice(), 0, end);
     if well {
