@@ -1,11 +1,11 @@
 -- What is printed of an order tells the order. Assumes nothing.
 use Rattle.std.specs.Prelude.{◌≡◌, ℕ, ◌^◌, ◌<◌, List, Some, None, Option}
-use Rattle.std.specs.List.{AllByRecursion as All}
+use Rattle.std.specs.List.{AllByRecursion}
 use Rattle.texts.specs.Lines.{order_words, summary_lines}
 
 -- each number has at most 64 bits, as every number of a program has: the library writes no more digits than 64
 abbrev pub Fitting : Option (List ℕ) → Type 0
-Fitting (Some xs) = All (λ x. x < 2 ^ 64) xs
+Fitting (Some xs) = AllByRecursion (λ x. x < 2 ^ 64) xs
 Fitting None = Unit {0}
 
 -- orders that print alike are the same, and no order prints as the word for none does
