@@ -1,6 +1,6 @@
 -- The words of an order tell the order. Assumes nothing.
 use Rattle.std.proofs.Common.{◌≡◌, ℕ, ◌+◌, ◌%◌, ◌^◌, ◌<◌, ◌≤◌, List, [], ◌∷◌, ◌++◌, length, Some, None, codes, decimal, sym, refl, ap, arith}
-use Rattle.std.specs.List.{AllByRecursion as All}
+use Rattle.std.specs.List.{AllByRecursion}
 use Rattle.std.proofs.lemmas.Fmt.{decimal_by_steps, decimal_nonempty, decimal_injective}
 use Rattle.std.proofs.ByRecursion.{All-push, All-weaker}
 use Rattle.std.proofs.lemmas.List.{append_cancel_left, append_cancel_right}
@@ -13,7 +13,7 @@ Ended s [] = Unit {0}
 Ended s (c ∷ cs) = c ≡ s
 
 -- bytes above s end where s follows or nothing
-parted : (s : ℕ) (a b p q : List ℕ) → All (λ c. s < c) a → All (λ c. s < c) b → Ended s p → Ended s q → a ++ p ≡ b ++ q → (a ≡ b) × (p ≡ q)
+parted : (s : ℕ) (a b p q : List ℕ) → AllByRecursion (λ c. s < c) a → AllByRecursion (λ c. s < c) b → Ended s p → Ended s q → a ++ p ≡ b ++ q → (a ≡ b) × (p ≡ q)
 parted s [] [] p q i j u v e = (refl, e)
 parted s [] (d ∷ b) [] q i j u v e = absurd (let z : ◌≡◌ {A = ℕ} 0 1 = cc in omega arith)
 parted s [] (d ∷ b) (c ∷ p) q i j u v e = absurd (let z : c ≡ d = cc in omega arith)
@@ -29,17 +29,17 @@ parted s (c ∷ a) (d ∷ b) p q i j u v e =
 abbrev Digit : ℕ → Type 0
 Digit c = (48 ≤ c) × (c < 58)
 
-decimal_digits : (n : ℕ) → n < 2 ^ 64 → All Digit (decimal n)
-decimal_digits = decimal_by_steps (λ _ ds. All Digit ds) (λ n h. ((omega arith, omega arith), tt)) (λ n ds h k. All-push Digit ds (48 + n % 10) k (omega arith, omega arith))
+decimal_digits : (n : ℕ) → n < 2 ^ 64 → AllByRecursion Digit (decimal n)
+decimal_digits = decimal_by_steps (λ _ ds. AllByRecursion Digit ds) (λ n h. ((omega arith, omega arith), tt)) (λ n ds h k. All-push Digit ds (48 + n % 10) k (omega arith, omega arith))
 
-above_space : (ds : List ℕ) → All Digit ds → All (λ c. 32 < c) ds
+above_space : (ds : List ℕ) → AllByRecursion Digit ds → AllByRecursion (λ c. 32 < c) ds
 above_space ds h = All-weaker Digit (λ c. 32 < c) (λ c d. omega arith) ds h
 
 numbers_ended : (xs : List ℕ) → Ended 32 (numbers xs)
 numbers_ended [] = tt
 numbers_ended (x ∷ xs) = refl
 
-numbers_told : (xs ys : List ℕ) → All (λ x. x < 2 ^ 64) xs → All (λ x. x < 2 ^ 64) ys → numbers xs ≡ numbers ys → xs ≡ ys
+numbers_told : (xs ys : List ℕ) → AllByRecursion (λ x. x < 2 ^ 64) xs → AllByRecursion (λ x. x < 2 ^ 64) ys → numbers xs ≡ numbers ys → xs ≡ ys
 numbers_told [] [] i j e = refl
 numbers_told [] (y ∷ ys) i j e = absurd (let z : ◌≡◌ {A = ℕ} 0 1 = cc in omega arith)
 numbers_told (x ∷ xs) [] i j e = absurd (let z : ◌≡◌ {A = ℕ} 0 1 = cc in omega arith)
@@ -52,11 +52,11 @@ numbers_told (x ∷ xs) (y ∷ ys) i j e =
     cc
 
 -- a digit begins no word
-not_a_word : (ds rest : List ℕ) → All Digit ds → 0 < length ds → ds ++ rest ≡ codes "none" → ⊥
+not_a_word : (ds rest : List ℕ) → AllByRecursion Digit ds → 0 < length ds → ds ++ rest ≡ codes "none" → ⊥
 not_a_word [] rest i l e = omega arith
 not_a_word (d ∷ ds) rest i l e = let z : d ≡ 110 = cc in omega arith
 
-not_none : (xs : List ℕ) → All (λ x. x < 2 ^ 64) xs → numbers xs ≡ codes " none" → ⊥
+not_none : (xs : List ℕ) → AllByRecursion (λ x. x < 2 ^ 64) xs → numbers xs ≡ codes " none" → ⊥
 not_none [] i e = let z : ◌≡◌ {A = ℕ} 0 1 = cc in omega arith
 not_none (x ∷ xs) i e =
     let word : decimal x ++ numbers xs ≡ codes "none" = cc in
