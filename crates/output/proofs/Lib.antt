@@ -1,3 +1,4 @@
 pub mod Pastes
 pub mod Puts
+pub mod Writing
 pub mod Hexes

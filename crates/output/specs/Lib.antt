@@ -1,3 +1,4 @@
 pub mod Output
+pub mod Writes
 pub mod Hex
 pub mod Laws
