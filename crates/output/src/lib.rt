@@ -1,10 +1,12 @@
 // Text and bytes written one after another into lent memory, which may be full.
 #![tactic(auto)]
 
-ghost use Rattle.std.specs.Prelude.{[], decimal, ◌∷◌, ◌≡◌, ◌<◌};
+ghost use Rattle.std.specs.Prelude.{[], decimal, take, ◌∷◌, ◌≡◌, ◌<◌};
 ghost use Rattle.output.specs.Hex.{hex, hex_digit};
 ghost use Rattle.output.specs.Laws.{Fitting, Told};
 ghost use Rattle.output.specs.Writes.{Writes};
+
+use parts::front;
 
 // Lent memory, and the place in it where the next byte goes.
 //
@@ -17,6 +19,13 @@ pub struct Output<'a> {
 }
 
 impl Output<'_> {
+    // What stands in the memory before the place.
+    pub fn written(&self) -> &[u8]
+        ensures { result.now ≡ take self.now.at self.now.memory.now }
+    {
+        front(self.memory, self.at)
+    }
+
     // Writes bytes.
     pub fn put(&mut self, bytes: &[u8])
         ensures { Writes self.old self.new bytes.now }

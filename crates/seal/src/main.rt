@@ -4,7 +4,7 @@
 
 use anyhow::anyhow;
 use ceremony::{Draw, Listing, Memory};
-use output::between;
+use output::Output;
 use seal_text::put_seal;
 use std::process::ExitCode;
 use std::{env, fs};
@@ -18,7 +18,8 @@ const SLOTS: usize = 130_000;
 
 const LONGEST: usize = 8_192;
 
-const TEXT: usize = 4_096;
+// The longest text has 155 bytes.
+const TEXT: usize = 256;
 
 // The words of the command line: all three, or the first alone, which may ask for help.
 fn arguments(rt: &HostRuntime) -> anyhow::Result<(String, Option<(String, String)>)> {
@@ -67,15 +68,17 @@ fn tell(rt: &HostRuntime, file: &[u8], party: u8, opening: &[u8]) -> anyhow::Res
     if cut {
         return Err(anyhow!("the file of steps ends inside a step"));
     }
-    let mut text = vec![in heap; 0u8; TEXT]?;
-    let (end, sealed) = put_seal(text.as_mut_slice(), 0, &last, party, opening);
-    let told = between(text.as_slice(), 0, end);
-    if sealed {
-        rt.write_all(told)?;
-    } else {
-        rt.stderr().write_all(told)?;
+    let mut text = [0; TEXT];
+    let mut out = Output {
+        memory: &mut text,
+        at: 0,
+    };
+    let sealed = put_seal(&mut out, &last, party, opening);
+    match sealed {
+        Ok(()) => rt.write_all(out.written())?,
+        Err(_) => rt.stderr().write_all(out.written())?,
     }
-    Ok(sealed)
+    Ok(sealed.is_ok())
 }
 
 fn run(rt: &HostRuntime) -> anyhow::Result<bool> {

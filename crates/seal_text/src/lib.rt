@@ -3,71 +3,80 @@
 
 ghost use Rattle.std.specs.Prelude.{◌≡◌};
 ghost use Rattle.ceremony.specs.Draws.{closed_list, state};
-ghost use Rattle.output.specs.Output.{put};
-ghost use Rattle.seal_text.specs.Seals.{length_line, seal_lines, seal_told, told_list};
+ghost use Rattle.output.specs.Writes.{Writes};
+ghost use Rattle.seal_text.specs.Seals.{no_seal_line, seal_for, seal_lines, seal_told};
+ghost use Rattle.std.specs.Result.{result_and};
 
 use ceremony::{ClosedList, Draw};
-use output::{put, put_decimal, put_hex};
+use output::Output;
 use seals::{MOST_PARTIES, SALT, seal};
 
-fn put_lines(out: &mut [u8], at: usize, party: u8, seal: &[u8]) -> usize
-    ensures { (out.new, result) ≡ put (out.old, at) (seal_lines party seal.now) }
-{
-    let party_at = put(out, at, b"party ");
-    let party_end = put_decimal(out, party_at, party as usize);
-    let seal_at = put(out, party_end, b"\nseal ");
-    let seal_end = put_hex(out, seal_at, seal);
-    put(
-        out,
-        seal_end,
-        b"\nKeep your opening secret until the seals are closed, and hand it in then.\n",
-    )
+// Why there is no seal.
+#[derive(Clone, Copy, Debug, PartialEq, Eq)]
+pub enum NoSeal {
+    // no party has this number
+    NoSuchParty,
+    // the list is not closed yet, whose hash is sealed too
+    ListOpen,
+    // the opening has not just 32 bytes and those that each party puts in: how many it should have, and how many it has
+    OpeningLength { wanted: usize, given: usize },
 }
 
-fn put_length(out: &mut [u8], at: usize, wanted: usize, given: usize) -> usize
-    ensures { (out.new, result) ≡ put (out.old, at) (length_line wanted given) }
-{
-    let given_at = put(out, at, b"the opening has ");
-    let given_end = put_decimal(out, given_at, given);
-    let wanted_at = put(out, given_end, b" bytes, and should have ");
-    let wanted_end = put_decimal(out, wanted_at, wanted);
-    put(
-        out,
-        wanted_end,
-        b": 32, and those that each party puts in\n",
-    )
-}
-
-// For a party of a number that there may be.
-fn put_for_list(
-    out: &mut [u8],
-    at: usize,
-    list: Option<ClosedList>,
-    party: u8,
-    opening: &[u8],
-) -> (usize, bool)
-    ensures text { (out.new, result.0) ≡ put (out.old, at) (told_list party opening.now list).0 }
-    ensures sealed { result.1 ≡ (told_list party opening.now list).1 }
-{
-    let Some(list) = list else {
-        return (put(out, at, b"the list is not closed yet\n"), false);
-    };
-    let wanted = SALT + list.length as usize;
-    if opening.len() != wanted {
-        return (put_length(out, at, wanted, opening.len()), false);
-    }
-    let sealed = seal(&list.hash, party, opening);
-    (put_lines(out, at, party, &sealed), true)
-}
-
-// Writes the seal of a party's opening for the list of a draw, or why there is none. It answers with the place behind it,
-// and whether there is a seal.
-pub fn put_seal(out: &mut [u8], at: usize, draw: &Draw, party: u8, opening: &[u8]) -> (usize, bool)
-    ensures text { (out.new, result.0) ≡ put (out.old, at) (seal_told party opening.now (closed_list (state draw.now))).0 }
-    ensures sealed { result.1 ≡ (seal_told party opening.now (closed_list (state draw.now))).1 }
+// The seal of a party's opening for a list.
+fn seal_for(list: Option<ClosedList>, party: u8, opening: &[u8]) -> Result<[u8; 32], NoSeal>
+    ensures { result ≡ seal_for party opening.now list }
 {
     if party >= MOST_PARTIES {
-        return (put(out, at, b"a party has a number from 0 to 254\n"), false);
+        return Err(NoSeal::NoSuchParty);
     }
-    put_for_list(out, at, draw.closed_list(), party, opening)
+    let list = list.ok_or(NoSeal::ListOpen)?;
+    let wanted = SALT + list.length as usize;
+    let given = opening.len();
+    if given != wanted {
+        return Err(NoSeal::OpeningLength { wanted, given });
+    }
+    Ok(seal(&list.hash, party, opening))
+}
+
+fn put_lines(out: &mut Output, party: u8, seal: &[u8])
+    ensures { Writes out.old out.new (seal_lines party seal.now) }
+{
+    out.put(b"party ");
+    out.put_decimal(party as usize);
+    out.put(b"\nseal ");
+    out.put_hex(seal);
+    out.put(b"\nKeep your opening secret until the seals are closed, and hand it in then.\n");
+}
+
+fn put_no_seal(out: &mut Output, why: NoSeal)
+    ensures { Writes out.old out.new (no_seal_line why) }
+{
+    match why {
+        NoSeal::NoSuchParty => out.put(b"a party has a number from 0 to 254\n"),
+        NoSeal::ListOpen => out.put(b"the list is not closed yet\n"),
+        NoSeal::OpeningLength { wanted, given } => {
+            out.put(b"the opening has ");
+            out.put_decimal(given);
+            out.put(b" bytes, and should have ");
+            out.put_decimal(wanted);
+            out.put(b": 32, and those that each party puts in\n");
+        }
+    }
+}
+
+// Writes the seal of a party's opening for the list of a draw, or why there is none.
+pub fn put_seal(out: &mut Output, draw: &Draw, party: u8, opening: &[u8]) -> Result<(), NoSeal>
+    ensures text { Writes out.old out.new (seal_told party opening.now (closed_list (state draw.now))) }
+    ensures sealed { result ≡ result_and (seal_for party opening.now (closed_list (state draw.now))) (Ok tt) }
+{
+    match seal_for(draw.closed_list(), party, opening) {
+        Ok(seal) => {
+            put_lines(out, party, &seal);
+            Ok(())
+        }
+        Err(why) => {
+            put_no_seal(out, why);
+            Err(why)
+        }
+    }
 }
