@@ -1,3 +1,4 @@
+pub mod Kinds
 pub mod Reading
 pub mod File
 pub mod Laws

@@ -1,7 +1,7 @@
 -- A file of steps: each step is one byte for its kind, two bytes of length, low byte first, and its bytes. Assumes nothing.
-use Rattle.std.specs.Prelude.{ℕ, ◌+◌, ◌*◌, cond, List, length, take, drop, nat_le, nat_lt, slice_index}
-use Rattle.step_file.specs.declared.Reading.{Reading}
-use Rattle.step_file.specs.declared.Reading.TheVariants.{End, Cut, Step}
+use Rattle.std.specs.Prelude.{ℕ, ◌+◌, ◌*◌, cond, List, length, take, drop, Some, None, Option, Ok, Err, Result, nat_le, nat_lt, slice_index}
+use Rattle.step_file.specs.declared.CutShort.{CutShort}
+use Rattle.step_file.specs.declared.Step.{Step}
 
 -- what stands at a place: no more bytes, a step that is cut short, or a step with its kind, its bytes and the next place
 pub data Found : Type 0 where
@@ -9,10 +9,10 @@ pub data Found : Type 0 where
   cut : Found
   step : ℕ → List ℕ → ℕ → Found
 
-abbrev pub reading : Reading → Found
-reading End = end
-reading Cut = cut
-reading (Step k bs n) = step k bs.now n
+abbrev pub reading : Result (Option Step) CutShort → Found
+reading (Ok None) = end
+reading (Ok (Some s)) = step s.kind s.bytes.now s.next
+reading (Err e) = cut
 
 -- the two bytes of a length, low byte first
 abbrev pub length_of : List ℕ → ℕ
