@@ -1,2 +1,2 @@
-pub mod Files
+pub mod Walk
 pub mod Again

@@ -1,4 +1,5 @@
 pub mod Kinds
 pub mod Reading
 pub mod File
+pub mod Walk
 pub mod Laws

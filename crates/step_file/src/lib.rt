@@ -1,9 +1,9 @@
 // A file of steps, read one step at a time: one byte for its kind, two bytes of length, low byte first, and its bytes.
 #![tactic(auto)]
 
-ghost use Rattle.std.specs.Prelude.{◌≡◌, codes, Some};
+ghost use Rattle.std.specs.Prelude.{◌≡◌, codes, length, Some};
 ghost use Rattle.step_file.specs.Laws.{ReadAgain};
-ghost use Rattle.step_file.specs.Reading.{reading, step_at};
+ghost use Rattle.step_file.specs.Reading.{first_step, reading};
 
 mod kind;
 
@@ -11,12 +11,10 @@ pub use crate::kind::{Kind, UnknownKind};
 use std::error::Error;
 use std::fmt;
 
-// A step of a file, and the place of the next one.
 #[derive(Clone, Copy, Debug, PartialEq, Eq)]
 pub struct Step<'a> {
     pub kind: u8,
     pub bytes: &'a [u8],
-    pub next: usize,
 }
 
 // A file ends inside a step.
@@ -33,23 +31,56 @@ impl fmt::Display for CutShort {
 
 impl Error for CutShort {}
 
-// The step at a place of a file, if there is any.
-pub fn read_step(file: &[u8], at: usize) -> Result<Option<Step<'_>>, CutShort>
-    ensures { reading result ≡ step_at file.now at }
+// The first step of a file, if there is any, and what is left behind it.
+pub fn split_step(file: &[u8]) -> Result<Option<(Step<'_>, &[u8])>, CutShort>
+    ensures { reading result ≡ first_step file.now }
 {
-    if at >= file.len() {
+    if file.is_empty() {
         return Ok(None);
     }
-    let ([kind, low, high], rest) = file[at..].split_first_chunk::<3>().ok_or(CutShort)?;
+    let ([kind, low, high], rest) = file.split_first_chunk::<3>().ok_or(CutShort)?;
     let length = usize::from(u16::from_le_bytes([*low, *high]));
-    if rest.len() < length {
-        return Err(CutShort);
+    let (bytes, rest) = rest.split_at_checked(length).ok_or(CutShort)?;
+    Ok(Some((Step { kind: *kind, bytes }, rest)))
+}
+
+// The steps of a file one after another, and behind them that it is cut short, if it is.
+#[derive(Clone, Copy, Debug)]
+pub struct Steps<'a> {
+    pub rest: &'a [u8],
+}
+
+impl<'a> Steps<'a> {
+    pub fn new(file: &'a [u8]) -> Steps<'a>
+        ensures { result.rest.now ≡ file.now }
+    {
+        Steps { rest: file }
     }
-    Ok(Some(Step {
-        kind: *kind,
-        bytes: &rest[..length],
-        next: at + 3 + length,
-    }))
+}
+
+impl<'a> Iterator for Steps<'a> {
+    ghost use Rattle.std.specs.Iterator.{at_most};
+    ghost use Rattle.step_file.specs.Walk.{GivesStep};
+
+    type Item = Result<Step<'a>, CutShort>;
+
+    ghost next_gives = { GivesStep };
+
+    ghost remaining = { λ s. at_most (length s.rest.now) };
+
+    fn next(&mut self) -> Option<Result<Step<'a>, CutShort>> {
+        match split_step(self.rest) {
+            Ok(None) => None,
+            Ok(Some((step, rest))) => {
+                self.rest = rest;
+                Some(Ok(step))
+            }
+            Err(cut) => {
+                self.rest = &[];
+                Some(Err(cut))
+            }
+        }
+    }
 }
 
 // A file that is written from steps reads as just those steps, and is not cut short.
