@@ -1,3 +1,2 @@
-pub mod Walks
-pub mod Controls
 pub mod Characters
+pub mod OneLine

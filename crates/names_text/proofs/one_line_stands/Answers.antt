@@ -1,4 +1,4 @@
-use Rattle.names_text.proofs.Controls.{one_line}
+use Rattle.names_text.proofs.OneLine.{one_line}
 use Rattle.names_text.proofs.one_line_stands.Goals as goal
 
 pub returns : goal.returns
