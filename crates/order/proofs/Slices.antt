@@ -1,11 +1,9 @@
 -- The drawing of an order in the front of a slice. Assumes nothing.
 use borrow.Rule.Slice.PartMut.{post_of}
-use Rattle.std.proofs.Common.{◌≡◌, ℕ, ◌-◌, ◌^◌, ◌<◌, ◌≤◌, min, Bool, true, false, cond, ltb, List, ◌++◌, length, take, drop, Some, None, sym, refl, ap, ◌∙◌, subst, ap₂, arith}
+use Rattle.std.proofs.Common.{◌≡◌, ℕ, ◌-◌, ◌^◌, ◌<◌, ◌≤◌, min, Bool, true, false, cond, ltb, List, ◌++◌, length, take, drop, Some, None, Option, sym, refl, ap, ◌∙◌, subst, ap₂, arith}
 use Rattle.order.proofs.Names.{length_from}
 use Rattle.order.proofs.Rests.{Answer, told_none, told_some, left_out, left_names}
 use Rattle.order.proofs.Turns.{drawing_length, drawing_numbers}
-use Rattle.order.specs.declared.Outcome.TheVariants.{Drawn as InOrder, RunOut}
-use Rattle.order.specs.declared.Outcome.{Outcome}
 use Rattle.order.specs.Drawings.{Drawing, drawn, run_out, drawing_of, drawn_from, drawn_order, outcome, left_in}
 use Rattle.order.specs.Orders.{numbers_from}
 use Rattle.std.proofs.lemmas.List.{length-take, take-append-drop}
@@ -31,11 +29,11 @@ drawn_length n bytes from ns used = go (ltb (length bytes) (2 ^ 61))
     go false e = absurd (let z : ◌≡◌ {A = ℕ} 0 1 = cc in omega arith)
 
 -- what is answered, and what is left in the whole slice
-abbrev pub OutcomeOf : Drawing → List ℕ → Outcome → List ℕ → Type 0
+abbrev pub OutcomeOf : Drawing → List ℕ → Option ℕ → List ℕ → Type 0
 OutcomeOf d here r there = (r ≡ outcome d) × (there ≡ left_in d here)
 
-pub too_long : (n : ℕ) (bytes here : List ℕ) (from : ℕ) → 2 ^ 61 ≤ length bytes → OutcomeOf (drawn_order n bytes from) here RunOut here
-too_long n bytes here from h = subst (λ d. OutcomeOf d here RunOut here) (sym (drawn_order_long n bytes from h)) (refl, refl)
+pub too_long : (n : ℕ) (bytes here : List ℕ) (from : ℕ) → 2 ^ 61 ≤ length bytes → OutcomeOf (drawn_order n bytes from) here None here
+too_long n bytes here from h = subst (λ d. OutcomeOf d here None here) (sym (drawn_order_long n bytes from h)) (refl, refl)
 
 -- the first m places are lent, and the names are numbered
 module _ (bytes here names there : List ℕ) (from m x : ℕ) (short : length bytes < 2 ^ 61) (is_m : m ≡ min (length here) 65535)
@@ -57,14 +55,14 @@ module _ (bytes here names there : List ℕ) (from m x : ℕ) (short : length by
       drawn_order_is most bytes from short ∙ ap (λ n. drawn_from n (drop from (bits bytes))) (sym is_m)
       ∙ sym (ap (λ z. drawing_of z (drop from (bits bytes))) are ∙ drawing_numbers m (drop from (bits bytes)))
 
-  pub front_out : Answer answered from lent None there → OutcomeOf (drawn_order most bytes from) here RunOut (there ++ post_of 0 (m - 0) here)
+  pub front_out : Answer answered from lent None there → OutcomeOf (drawn_order most bytes from) here None (there ++ post_of 0 (m - 0) here)
   front_out a =
       let o : answered ≡ run_out = told_none from answered a.0 in
-      subst (λ d. OutcomeOf d here RunOut (there ++ post_of 0 (m - 0) here)) (sym (same ∙ o))
+      subst (λ d. OutcomeOf d here None (there ++ post_of 0 (m - 0) here)) (sym (same ∙ o))
       (refl, ap (λ z. z ++ drop (m - 0) here) (left_out answered lent there o a.1) ∙ take-append-drop (m - 0) here)
 
   pub front_drawn : (end : ℕ) → Answer answered from lent (Some end) there
-      → OutcomeOf (drawn_order most bytes from) here (InOrder (end - from)) (there ++ post_of 0 (m - 0) here)
+      → OutcomeOf (drawn_order most bytes from) here (Some (end - from)) (there ++ post_of 0 (m - 0) here)
   front_drawn end a =
       let t = told_some from answered end a.0 in
       let ns = t.0 in
@@ -72,5 +70,5 @@ module _ (bytes here names there : List ℕ) (from m x : ℕ) (short : length by
       let l : length ns ≡ m - 0 = omega arith in
       let e : there ≡ ns = left_names answered lent there ns t.1 t.2 (omega (arith, length-take (m - 0) here)) a.1 in
       let u : end - from ≡ t.1 = omega (arith, t.3) in
-      subst (λ d. OutcomeOf d here (InOrder (end - from)) (there ++ post_of 0 (m - 0) here)) (sym (same ∙ t.2))
-      (ap InOrder u, ap₂ (λ x y. x ++ drop y here) e (sym l))
+      subst (λ d. OutcomeOf d here (Some (end - from)) (there ++ post_of 0 (m - 0) here)) (sym (same ∙ t.2))
+      (ap Some u, ap₂ (λ x y. x ++ drop y here) e (sym l))

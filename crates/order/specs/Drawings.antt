@@ -1,7 +1,5 @@
 -- What the drawing of an order answers, and what it leaves in the slice that it was lent. Assumes nothing: these are definitions.
 use Rattle.std.specs.Prelude.{ℕ, zero, suc, ◌+◌, ◌-◌, ◌^◌, cond, List, ◌++◌, length, drop, Some, None, Option, nat_lt}
-use Rattle.order.specs.declared.Outcome.TheVariants.{Drawn as InOrder, RunOut}
-use Rattle.order.specs.declared.Outcome.{Outcome}
 use Rattle.order.specs.Orders.{Order, some, none, order, written, order_names}
 use Rattle.uniform.specs.Bits.{bits}
 use Rattle.uniform.specs.Draws.{Drawn, got, out, draw}
@@ -37,10 +35,10 @@ drawn_from n bs = told (order_names n bs) (bits_read n bs)
 unfoldable pub drawn_order : ℕ → List ℕ → ℕ → Drawing
 drawn_order n bytes from = cond (nat_lt (length bytes) (2 ^ 61)) (drawn_from n (drop from (bits bytes))) run_out
 
--- the answer to a drawing
-abbrev pub outcome : Drawing → Outcome
-outcome (drawn ns used) = InOrder used
-outcome run_out = RunOut
+-- the answer to a drawing: how many bits were read, or none where they have run out
+abbrev pub outcome : Drawing → Option ℕ
+outcome (drawn ns used) = Some used
+outcome run_out = None
 
 -- the place of the bit after those that were read from a place on
 abbrev pub place_after : ℕ → Drawing → Option ℕ

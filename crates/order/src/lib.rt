@@ -18,32 +18,23 @@ const MOST_NAMES: usize = 65_535;
 // A place of a bit is a `usize`, so rows of this many bytes and more have bits without a place.
 const TOO_LONG: usize = 1 << 61;
 
-// The names are in order, and so many bits were read; or the bits have run out.
-#[derive(Clone, Copy)]
-pub enum Outcome {
-    Drawn { used: usize },
-    RunOut,
-}
-
 // Draws the order of as many names as the slice has places, from the bits from a place on. Past 65,535 places the slice stays as it is, and so does
-// all of it where the bits run out: nothing is written before the last number is drawn.
-pub fn draw_order(order: &mut [u16], bytes: &[u8], from: usize) -> Outcome
+// all of it where the bits run out: nothing is written before the last number is drawn. Gives how many bits were read, or none where they have run out.
+pub fn draw_order(order: &mut [u16], bytes: &[u8], from: usize) -> Option<usize>
     ensures is { result ≡ outcome (drawn_order (min (length order.old) 65535) bytes.now from) }
     ensures after { order.new ≡ left_in (drawn_order (min (length order.old) 65535) bytes.now from) order.old }
     ensures once { EachOnce (min (length order.old) 65535) (drawn_order (min (length order.old) 65535) bytes.now from) }
     ensures exact { ExactlyRead (min (length order.old) 65535) (drop from (bits bytes.now)) (drawn_order (min (length order.old) 65535) bytes.now from) }
 {
     if bytes.len() >= TOO_LONG {
-        return Outcome::RunOut;
+        return None;
     }
     let n = order.len().min(MOST_NAMES);
     let mut names = [u16::MAX; MOST_NAMES];
     let left = &mut names[0..n];
     number(left);
-    let Some(end) = draw_rest(&mut order[0..n], left, bytes, from) else {
-        return Outcome::RunOut;
-    };
-    Outcome::Drawn { used: end - from }
+    let end = draw_rest(&mut order[0..n], left, bytes, from)?;
+    Some(end - from)
 }
 
 // The names of the list in its order: 0, 1, and so on.
@@ -68,18 +59,14 @@ fn draw_rest(order: &mut [u16], left: &mut [u16], bytes: &[u8], from: usize) -> 
     if n == 0 {
         return Some(from);
     }
-    let Some((k, next)) = draw_below(bytes, from, n as u16) else {
-        return None; // and so for every level before this one
-    };
+    let (k, next) = draw_below(bytes, from, n as u16)?;
     let (name, first) = take_out(left, k as usize);
-    let Some(end) = draw_rest(
+    let end = draw_rest(
         &mut order[1..n],
         &mut left[first..first + n - 1],
         bytes,
         next,
-    ) else {
-        return None;
-    };
+    )?;
     order[0] = name;
     Some(end)
 }

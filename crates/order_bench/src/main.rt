@@ -1,7 +1,7 @@
 // Draws the order of 1,400 names from 8,192 bytes as often as the first argument says, for timing. Each order changes a byte for the next.
 #![tactic(auto)]
 
-use order::{Outcome, draw_order};
+use order::draw_order;
 use std::env;
 
 // The bytes that the first order is drawn from.
@@ -17,10 +17,7 @@ fn fill(bytes: &mut [u8]) {
 
 // Draws once, changes a byte, and mixes what was drawn into the sum that is printed.
 fn once(order: &mut [u16; 1400], bytes: &mut [u8; 8192], sum: u64) -> u64 {
-    let used = match draw_order(order, bytes, 0) {
-        Outcome::Drawn { used } => used as u64,
-        Outcome::RunOut => 0,
-    };
+    let used = draw_order(order, bytes, 0).unwrap_or(0) as u64;
     let ends = u64::from(order[0]) + u64::from(order[1399]);
     bytes[(ends & 8191) as usize] ^= 90;
     sum.wrapping_mul(31)

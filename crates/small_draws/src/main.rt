@@ -4,7 +4,7 @@
 ghost use Rattle.std.specs.Prelude.{◌<◌, ◌≤◌};
 
 use anyhow::anyhow;
-use order::{Outcome, draw_order};
+use order::draw_order;
 
 // A tally for each row of five names, read as a number with five digits of five values.
 const TALLIES: usize = 3125;
@@ -31,12 +31,11 @@ fn count_rows(names: usize, bits: u32, tallies: &mut [u32; TALLIES]) -> u32
         let bytes = row.to_be_bytes();
         let mut places = [0u16; 5];
         let order = &mut places[0..names];
-        match draw_order(order, &bytes[4 - length..4], from) {
-            Outcome::Drawn { used: _ } => {
-                let tally = tally_of(order);
-                tallies[tally] = tallies[tally].saturating_add(1);
-            }
-            Outcome::RunOut => without = without.saturating_add(1),
+        if draw_order(order, &bytes[4 - length..4], from).is_some() {
+            let tally = tally_of(order);
+            tallies[tally] = tallies[tally].saturating_add(1);
+        } else {
+            without = without.saturating_add(1);
         }
     }
     without
