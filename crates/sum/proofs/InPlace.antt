@@ -17,10 +17,10 @@ one_added (a ∷ []) (b ∷ row) zero h l = refl
 one_added (a ∷ (c ∷ s)) (b ∷ row) zero h l = refl
 one_added (a ∷ s) (b ∷ row) (suc i) h l = ap (λ (z : List ℕ). bit_xor a b ∷ z) (one_added s row i (omega arith) (omega arith))
 
--- `s[i] ^= row[i]`, where the bytes before place i are added
-pub next_added : (s row now : List ℕ) (i : ℕ) → now ≡ xor_bytes s (take i row) → i < length row → i < length s
-    → set now i (bit_xor (get_or now i 0) (get_or row i 0)) ≡ xor_bytes s (take (i + 1) row)
-next_added s row now i e h l = rw (e, add-one) (one_added s row i h l)
+-- y, which stands in the row at place i, is added, where the bytes before place i are
+pub next_added : (s row now : List ℕ) (i y : ℕ) → now ≡ xor_bytes s (take i row) → y ≡ get_or row i 0 → i < length row → i < length s
+    → set now i (bit_xor (get_or now i 0) y) ≡ xor_bytes s (take (i + 1) row)
+next_added s row now i y e f h l = rw (e, f, add-one) (one_added s row i h l)
 
 -- no byte past the shorter row is added
 pub all_added : (s row : List ℕ) (i : ℕ) → min (length s) (length row) ≤ i → xor_bytes s (take i row) ≡ xor_bytes s row

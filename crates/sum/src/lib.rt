@@ -11,9 +11,9 @@ pub fn add(sum: &mut [u8], row: &[u8])
     ensures after { sum.new ≡ xor_bytes sum.old row.now }
     ensures more { OneMore sum.old row.now sum.new }
 {
-    let n = sum.len().min(row.len());
-    for i in 0..n {
-        sum[i] ^= row[i];
+    for (i, byte) in sum.iter_mut().enumerate() {
+        let Some(more) = row.get(i) else { break };
+        *byte ^= *more;
     }
 }
 
