@@ -2,6 +2,7 @@
 use Rattle.std.specs.Prelude.{ℕ, ◌+◌, ◌*◌, cond, ◌||◌, List, ◌++◌, length, take, drop, Some, None, Ok, Err, Option, Result, nat_le, nat_lt}
 use Rattle.std.proofs.Math.Seq.{paste}
 use Rattle.std.specs.List.{insert}
+use Rattle.refusals.specs.declared.Lent.TheVariants.{List as TheList}
 use Rattle.refusals.specs.declared.Refusal.{Refusal}
 use Rattle.refusals.specs.declared.Refusal.TheVariants.{NoRoom}
 use Rattle.entries.specs.Rows.{packed, slot_size}
@@ -21,7 +22,7 @@ pub record Entered : Type 0 where
   pub index : List ℕ
 
 abbrev pub entered_into : List ℕ → List ℕ → ℕ → List ℕ → ℕ → Option ℕ → Entered
-entered_into slots index count x at None = record { answer = Err (NoRoom 0); slots = slots; index = index }
+entered_into slots index count x at None = record { answer = Err (NoRoom TheList); slots = slots; index = index }
 entered_into slots index count x at (Some slot) =
     record {
       answer = Ok (count + 1);

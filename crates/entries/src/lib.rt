@@ -12,7 +12,7 @@ ghost use Rattle.entries.specs.Place.{place, place_for};
 ghost use Rattle.entries.specs.Entry.{slot_for, inserted_number, entered};
 ghost use Rattle.sha256.specs.Sha256.{sha256};
 
-use refusals::Refusal;
+use refusals::{Lent, Refusal};
 use sha256::Hasher;
 use shifts::move_back;
 use std::cmp::Ordering;
@@ -119,7 +119,7 @@ pub fn enter(slots: &mut [u8], index: &mut [u16], count: u16, name: &[u8]) -> Re
 {
     let at = place_for(slots, index, count, name)?;
     let Some(slot) = next_slot(slots, index, count) else {
-        return Err(Refusal::NoRoom(0));
+        return Err(Refusal::NoRoom(Lent::List));
     };
     write_name(slots, slot, name);
     insert_number(index, count, at);

@@ -1,6 +1,7 @@
 -- An entry is refused and changes nothing, or it is taken and put in at the place that was found. Assumes nothing.
 use Rattle.std.proofs.Common.{◌≡◌, ℕ, ◌+◌, ◌*◌, ◌<◌, ◌≤◌, Bool, true, false, cond, ◌||◌, eqb, ltb, leb, ◌⊎◌, List, length, Some, None, Ok, Err, Option, refl, ap, inl, inr, arith}
 use Rattle.std.proofs.lemmas.Bool.{or_parts, or_from, ltb-false, leb-false, eqb-false, ne_eqb, le-ltb, lt-leb}
+use Rattle.refusals.specs.declared.Lent.TheVariants.{List as TheList}
 use Rattle.refusals.specs.declared.Refusal.{Refusal}
 use Rattle.refusals.specs.declared.Refusal.TheVariants.{NameLength, NameTaken, NoRoom}
 use Rattle.entries.specs.Rows.{slot_size, longest_name, most_names}
@@ -54,7 +55,7 @@ module _ (s : Listing) (x : List ℕ) where
 
   room_cases : (at : ℕ) → 0 < length x → length x ≤ longest_name → s.count < most_names → place (names s) x ≡ Some at
       → (b : Bool) → no_room ≡ b → Taken (after_room at b) ⊎ Refused (after_room at b)
-  room_cases at a l c p true e = inr (NoRoom 0, refl)
+  room_cases at a l c p true e = inr (NoRoom TheList, refl)
   room_cases at a l c p false e =
       let t = or_parts (ltb (length s.slots) (slot_size * s.count + slot_size)) (leb (length s.index) s.count) e in
       inl (record {

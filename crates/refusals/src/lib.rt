@@ -2,8 +2,27 @@
 // that are printed.
 #![tactic(auto)]
 
-ghost use Rattle.std.specs.Prelude.{◌≡◌};
-ghost use Rattle.refusals.specs.Numbered.{number, place};
+ghost use Rattle.std.specs.Prelude.{◌≡◌, Some};
+ghost use Rattle.refusals.specs.Numbered.{number, place, refused_words};
+
+use std::fmt;
+
+// What a draw cannot be closed without, in the order of their numbers from 0.
+#[derive(Clone, Copy, Debug, PartialEq, Eq)]
+pub enum Missing {
+    Entry,
+    Seal,
+    Opening,
+}
+
+// The lent slices, in the order of their numbers from 0.
+#[derive(Clone, Copy, Debug, PartialEq, Eq)]
+pub enum Lent {
+    List,
+    Seals,
+    Bits,
+    Order,
+}
 
 #[derive(Clone, Copy, Debug, PartialEq, Eq)]
 pub enum Refusal {
@@ -15,25 +34,29 @@ pub enum Refusal {
     WrongTime,
     // the number of bytes that each party puts in is out of range
     BitsLength,
-    // a seal that is not 32 bytes long: its length; or the 256th: 255
+    // a seal that is not 32 bytes long: its length
     SealLength(usize),
+    // the 256th seal
+    TooManySeals,
     // an opening of a party that does not exist or has opened: the party
     NoSuchParty(u8),
     // an opening of the wrong length: its length
     OpeningLength(usize),
     // an opening that does not give the seal: the party
     WrongOpening(u8),
-    // closing without an entry, a seal or an opening: 0, 1 or 2
-    Nothing(u8),
-    // a lent slice is too short: 0 the list, 1 the seals, 2 the bits, 3 the order
-    NoRoom(u8),
+    // closing without an entry, a seal or an opening: which
+    Nothing(Missing),
+    // a lent slice is too short: which
+    NoRoom(Lent),
     // a protocol that ends too early: its length; or that goes on: the place of the first byte too many
     ProtocolLength(usize),
     // a count, a length, a name or a byte that tells whether a party opened is out of range, or a name is not above the
     // one before it: the place of its first byte
     OutOfRange(usize),
-    // an opening that does not give its seal: the party; or none opened: 255
+    // an opening that does not give its seal: the party
     BadOpening(u8),
+    // a protocol in which none opened
+    NoneOpened,
     // the order, or the word whether there is one, is not the one drawn: the place of its first byte
     WrongOrder(usize),
 }
@@ -47,7 +70,7 @@ impl Refusal {
             Refusal::NameTaken => 2,
             Refusal::WrongTime => 3,
             Refusal::BitsLength => 4,
-            Refusal::SealLength(_) => 5,
+            Refusal::SealLength(_) | Refusal::TooManySeals => 5,
             Refusal::NoSuchParty(_) => 6,
             Refusal::OpeningLength(_) => 7,
             Refusal::WrongOpening(_) => 8,
@@ -55,7 +78,7 @@ impl Refusal {
             Refusal::NoRoom(_) => 10,
             Refusal::ProtocolLength(_) => 11,
             Refusal::OutOfRange(_) => 12,
-            Refusal::BadOpening(_) => 13,
+            Refusal::BadOpening(_) | Refusal::NoneOpened => 13,
             Refusal::WrongOrder(_) => 14,
         }
     }
@@ -65,11 +88,21 @@ impl Refusal {
     {
         match self {
             Refusal::NameTaken | Refusal::WrongTime | Refusal::BitsLength => 0,
+            Refusal::TooManySeals | Refusal::NoneOpened => 255,
             Refusal::NameLength(n) | Refusal::SealLength(n) | Refusal::OpeningLength(n) => n,
             Refusal::ProtocolLength(at) | Refusal::OutOfRange(at) | Refusal::WrongOrder(at) => at,
             Refusal::NoSuchParty(p) | Refusal::WrongOpening(p) | Refusal::BadOpening(p) =>
                 p as usize,
-            Refusal::Nothing(what) | Refusal::NoRoom(what) => what as usize,
+            Refusal::Nothing(what) => what as usize,
+            Refusal::NoRoom(what) => what as usize,
         }
+    }
+}
+
+impl fmt::Display for Refusal {
+    ghost output = { λ why. Some (refused_words why) };
+
+    fn fmt<W: fmt::Write>(&self, f: &mut fmt::Formatter<W>) -> fmt::Result {
+        write!(f, "refused {} at {}", self.number(), self.place())
     }
 }

@@ -2,8 +2,9 @@
 use Rattle.std.specs.Prelude.{ℕ, ◌+◌, ◌*◌, cond, not, ◌||◌, List, [], ◌∷◌, ◌++◌, length, Ok, Err, Result, ◌==◌, nat_le, nat_lt}
 use Rattle.std.proofs.Math.Seq.{paste}
 use Rattle.std.specs.Str.{bytes_eq}
+use Rattle.refusals.specs.declared.Lent.TheVariants.{Seals}
 use Rattle.refusals.specs.declared.Refusal.{Refusal}
-use Rattle.refusals.specs.declared.Refusal.TheVariants.{SealLength, NoSuchParty, OpeningLength, WrongOpening, NoRoom}
+use Rattle.refusals.specs.declared.Refusal.TheVariants.{SealLength, TooManySeals, NoSuchParty, OpeningLength, WrongOpening, NoRoom}
 use Rattle.seals.specs.Seal.{seal_of}
 use Rattle.seals.specs.Records.{record_size, seal_in, has_opened}
 
@@ -19,8 +20,8 @@ pub record Sealed : Type 0 where
 abbrev pub seal_fault : List ℕ → ℕ → ℕ → List ℕ → Result ℕ Refusal
 seal_fault seals len parties x =
     cond (not (length x == 32)) (Err (SealLength (length x)))
-    (cond (parties == most_parties) (Err (SealLength 255))
-    (cond (nat_lt (length seals) (record_size len * (parties + 1))) (Err (NoRoom 1)) (Ok (record_size len * parties))))
+    (cond (parties == most_parties) (Err TooManySeals)
+    (cond (nat_lt (length seals) (record_size len * (parties + 1))) (Err (NoRoom Seals)) (Ok (record_size len * parties))))
 
 abbrev pub sealed_at : List ℕ → ℕ → List ℕ → Result ℕ Refusal → Sealed
 sealed_at seals parties x (Err why) = record { answer = Err why; seals = seals }
@@ -39,7 +40,7 @@ opening_fault seals len parties context party x =
     cond (nat_le parties party || has_opened seals len party) (Err (NoSuchParty party))
     (cond (not (length x == 32 + len)) (Err (OpeningLength (length x)))
     (cond (not (bytes_eq (seal_of context party x) (seal_in seals len party))) (Err (WrongOpening party))
-    (cond (nat_lt (length seals) (record_size len * party + 33 + length x)) (Err (NoRoom 1)) (Ok (record_size len * party + 32)))))
+    (cond (nat_lt (length seals) (record_size len * party + 33 + length x)) (Err (NoRoom Seals)) (Ok (record_size len * party + 32)))))
 
 abbrev pub opened_at : List ℕ → List ℕ → Result ℕ Refusal → Opened
 opened_at seals x (Err why) = record { answer = Err why; seals = seals }

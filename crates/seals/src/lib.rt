@@ -12,7 +12,7 @@ ghost use Rattle.seals.specs.Seal.{seal_of, TwoOpenings};
 ghost use Rattle.seals.specs.Records.{record_size, has_opened, seal_in};
 ghost use Rattle.seals.specs.Steps.{sealed, opened, opening_fault};
 
-use refusals::Refusal;
+use refusals::{Lent, Refusal};
 use sha256::Hasher;
 
 pub const SALT: usize = 32;
@@ -80,11 +80,11 @@ pub fn add_seal(seals: &mut [u8], length: u16, parties: u8, seal: &[u8]) -> Resu
         return Err(Refusal::SealLength(seal.len()));
     }
     if parties == MOST_PARTIES {
-        return Err(Refusal::SealLength(MOST_PARTIES as usize));
+        return Err(Refusal::TooManySeals);
     }
     let at = record_at(length, parties);
     if seals.len() < record_at(length, parties + 1) {
-        return Err(Refusal::NoRoom(1));
+        return Err(Refusal::NoRoom(Lent::Seals));
     }
     write(seals, at, seal);
     seals[at + SEAL] = 0;
@@ -113,7 +113,7 @@ fn place_for(
         return Err(Refusal::WrongOpening(party));
     }
     if seals.len() < at + SEAL + 1 + opening.len() {
-        return Err(Refusal::NoRoom(1));
+        return Err(Refusal::NoRoom(Lent::Seals));
     }
     Ok(at + SEAL)
 }
