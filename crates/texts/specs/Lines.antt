@@ -1,5 +1,6 @@
 -- The lines that the programs print, as bytes. Assumes nothing.
-use Rattle.std.specs.Prelude.{ℕ, List, [], ◌∷◌, ◌++◌, Some, None, codes, decimal, Option}
+use Rattle.std.specs.Prelude.{ℕ, List, ◌++◌, Some, None, codes, decimal, Option}
+use Rattle.std.specs.List.{flat_map}
 use Rattle.refusals.specs.declared.Refusal.{Refusal}
 use Rattle.refusals.specs.Numbered.{number, place}
 
@@ -13,8 +14,7 @@ left_out_line party = codes "party " ++ (decimal party ++ codes " left out\n")
 
 -- numbers, each after a space
 abbrev pub numbers : List ℕ → List ℕ
-numbers [] = []
-numbers (x ∷ xs) = (codes " " ++ decimal x) ++ numbers xs
+numbers xs = flat_map (λ (x : ℕ). codes " " ++ decimal x) xs
 
 abbrev pub order_words : Option (List ℕ) → List ℕ
 order_words (Some xs) = numbers xs

@@ -4,7 +4,7 @@
 ghost use Rattle.std.specs.Prelude.{◌≡◌, cond, List, ◌++◌, is_ok, IfOk, string_bytes, codes, decimal, OnOk};
 ghost use Rattle.std.specs.Option.{option_map};
 ghost use Rattle.texts.specs.Laws.{OrderTold, SummaryTold};
-ghost use Rattle.texts.specs.Lines.{refusal_line, left_out_line, summary_lines, order_words, count_words, numbers};
+ghost use Rattle.texts.specs.Lines.{refusal_line, left_out_line, summary_lines, order_words, count_words};
 
 use refusals::Refusal;
 use std::alloc::{AllocError, Global};
@@ -13,65 +13,27 @@ use std::alloc::{AllocError, Global};
 pub fn add_refusal(text: &mut String, step: usize, why: Refusal) -> Result<(), AllocError>
     ensures { OnOk result (string_bytes text.new ≡ string_bytes text.old ++ refusal_line step why) }
 {
-    let number = why.number();
-    let place = why.place();
-    match write!(text, "step {step} refused {number} at {place}\n") {
-        Ok(()) => Ok(()),
-        Err(_) => Err(AllocError),
-    }
+    write!(text, "step {step} {why}\n")
 }
 
 // Adds the line that names a party whose opening has not come.
 pub fn add_left_out(text: &mut String, party: u8) -> Result<(), AllocError>
     ensures { OnOk result (string_bytes text.new ≡ string_bytes text.old ++ left_out_line party) }
 {
-    match write!(text, "party {party} left out\n") {
-        Ok(()) => Ok(()),
-        Err(_) => Err(AllocError),
-    }
+    write!(text, "party {party} left out\n")
 }
 
-// Adds a number after a space.
-fn add_number(text: &mut String, x: u16) -> Result<(), AllocError>
-    ensures { OnOk result (string_bytes text.new ≡ string_bytes text.old ++ (codes " " ++ decimal x)) }
-{
-    match write!(text, " {x}") {
-        Ok(()) => Ok(()),
-        Err(_) => Err(AllocError),
-    }
-}
-
-// Adds numbers, each after a space.
-fn add_numbers(text: &mut String, order: &[u16]) -> Result<(), AllocError>
-    ensures { OnOk result (string_bytes text.new ≡ string_bytes text.old ++ numbers order.now) }
-{
-    for x in order {
-        add_number(text, *x)?;
-    }
-    Ok(())
-}
-
-// Adds the words for an order, or for none.
+// Adds the numbers of an order, each after a space, or the word for none.
 fn add_order(text: &mut String, order: Option<&[u16]>) -> Result<(), AllocError>
     ensures { OnOk result (string_bytes text.new ≡ string_bytes text.old ++ order_words (option_map (λ x. x.now) order.entry)) }
 {
-    match order {
-        Some(order) => add_numbers(text, order),
-        None => text.push_str(" none"),
+    let Some(order) = order else {
+        return text.push_str(" none");
+    };
+    for number in order {
+        write!(text, " {number}")?;
     }
-}
-
-// Adds the line of how many there were, and the word that the order stands behind.
-fn add_counts(text: &mut String, names: u16, parties: u8, opened: u8) -> Result<(), AllocError>
-    ensures { OnOk result (string_bytes text.new ≡ string_bytes text.old ++ count_words names parties opened) }
-{
-    match write!(
-        text,
-        "names {names} parties {parties} opened {opened}\norder"
-    ) {
-        Ok(()) => Ok(()),
-        Err(_) => Err(AllocError),
-    }
+    Ok(())
 }
 
 // The two lines that end a draw: how many names, parties and openings there were, and the order.
@@ -84,8 +46,7 @@ pub fn summary_text(
 ) -> Result<String, AllocError>
     ensures { IfOk result (λ s. string_bytes s ≡ summary_lines names parties opened (option_map (λ x. x.now) order.entry)) }
 {
-    let mut text = String::new(heap);
-    add_counts(&mut text, names, parties, opened)?;
+    let mut text = format!(in heap; "names {names} parties {parties} opened {opened}\norder")?;
     add_order(&mut text, order)?;
     text.push_str("\n")?;
     Ok(text)
