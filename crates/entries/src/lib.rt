@@ -5,8 +5,9 @@
 // in, and its place is found by halving.
 #![tactic(auto)]
 
-ghost use Rattle.std.specs.Prelude.{◌≡◌, ℕ, ◌+◌, ◌*◌, ◌<◌, ◌≤◌, List, [], map, length, IfSome, IfOk, slice_index_or};
+ghost use Rattle.std.specs.Prelude.{◌≡◌, ℕ, ◌+◌, ◌*◌, ◌<◌, ◌≤◌, List, [], map, length, take, IfSome, IfOk, slice_index_or};
 ghost use Rattle.std.proofs.Math.Seq.{paste};
+ghost use Rattle.refusals.specs.Answers.{done, number_or};
 ghost use Rattle.entries.specs.Rows.{name_in, packed, packed_rows, list_hash};
 ghost use Rattle.entries.specs.Place.{place, place_for};
 ghost use Rattle.entries.specs.Entry.{slot_for, inserted_number, entered};
@@ -14,7 +15,6 @@ ghost use Rattle.sha256.specs.Sha256.{sha256};
 
 use refusals::{Lent, Refusal};
 use sha256::Hasher;
-use shifts::move_back;
 use std::cmp::Ordering;
 
 pub const MOST_NAMES: u16 = 2000;
@@ -23,22 +23,28 @@ pub const LONGEST_NAME: usize = 64;
 
 pub const SLOT: usize = 65;
 
+// The list of names, in memory that is lent to it.
+#[derive(Drop)]
+pub struct NameList<'a> {
+    pub slots: &'a mut [u8],
+    pub index: &'a mut [u16],
+    pub count: u16,
+}
+
 // The name in a slot, as a part of the bytes.
 fn name_in(slots: &[u8], slot: u16) -> &[u8]
     ensures is { result.now ≡ name_in slots.now slot }
     ensures short { length result.now < 256 }
 {
-    let at = SLOT * slot as usize;
-    if at >= slots.len() {
-        return &slots[0..0];
-    }
-    let from = at + 1;
-    let length = slots[at] as usize;
-    let end = from + length.min(slots.len() - from);
-    &slots[from..end]
+    let at = slots.len().min(SLOT * slot as usize);
+    let Some((length, bytes)) = slots[at..].split_first() else {
+        return &slots[..0];
+    };
+    &bytes[..bytes.len().min(*length as usize)]
 }
 
-// Where a name belongs among those listed, or none where it is there.
+// Where a name belongs among those listed, or none where it is there. The halving is by hand: it answers for every
+// memory, and the library's search promises no place in a list that is not sorted.
 fn find(slots: &[u8], numbers: &[u16], name: &[u8]) -> Option<usize>
     ensures is { result ≡ place (map (name_in slots.now) numbers.now) name.now }
     ensures within { IfSome result (λ at. at ≤ length numbers.now) }
@@ -54,36 +60,6 @@ fn find(slots: &[u8], numbers: &[u16], name: &[u8]) -> Option<usize>
         }
     }
     Some(low)
-}
-
-// The place at which a new name goes into the list of `count` names, or why it is refused.
-pub fn place_for(slots: &[u8], index: &[u16], count: u16, name: &[u8]) -> Result<usize, Refusal>
-    ensures is { result ≡ place_for slots.now index.now count name.now }
-    ensures within { IfOk result (λ at. at ≤ count) }
-{
-    let length = name.len();
-    if length == 0 || length > LONGEST_NAME {
-        return Err(Refusal::NameLength(length));
-    }
-    if count >= MOST_NAMES {
-        return Err(Refusal::NameTaken);
-    }
-    let kept = index.len().min(count as usize);
-    let Some(at) = find(slots, &index[0..kept], name) else {
-        return Err(Refusal::NameTaken);
-    };
-    Ok(at)
-}
-
-// Where the next slot begins, if there is room for it and its number.
-fn next_slot(slots: &[u8], index: &[u16], count: u16) -> Option<usize>
-    ensures { result ≡ slot_for (length slots.now) (length index.now) count }
-{
-    let slot = SLOT * count as usize;
-    if slots.len() < slot + SLOT || index.len() <= count as usize {
-        return None;
-    }
-    Some(slot)
 }
 
 // Writes a name into its slot, after its length.
@@ -105,36 +81,9 @@ fn insert_number(index: &mut [u16], count: u16, at: usize)
     requires room { count < length index.old }
     ensures { index.new ≡ inserted_number index.old count at }
 {
-    let end = count as usize + 1;
-    let behind = &mut index[at..end];
-    move_back(behind);
-    behind[0] = count;
-}
-
-// One entry into the list of `count` names: the new number of names, or a refusal, which changes nothing.
-pub fn enter(slots: &mut [u8], index: &mut [u16], count: u16, name: &[u8]) -> Result<u16, Refusal>
-    ensures answer { result ≡ (entered slots.old index.old count name.now).answer }
-    ensures slots { slots.new ≡ (entered slots.old index.old count name.now).slots }
-    ensures index { index.new ≡ (entered slots.old index.old count name.now).index }
-{
-    let at = place_for(slots, index, count, name)?;
-    let Some(slot) = next_slot(slots, index, count) else {
-        return Err(Refusal::NoRoom(Lent::List));
-    };
-    write_name(slots, slot, name);
-    insert_number(index, count, at);
-    Ok(count + 1)
-}
-
-// Name number `number` of the list, as a part of the bytes; none of that number is no bytes.
-pub fn name<'a>(slots: &'a [u8], index: &[u16], number: u16) -> &'a [u8]
-    ensures { result.now ≡ slice_index_or (map (name_in slots.now) index.now) number [] }
-{
-    let number = number as usize;
-    if number >= index.len() {
-        return &slots[0..0];
-    }
-    name_in(slots, index[number])
+    let end = count as usize;
+    index[end] = count;
+    index[at..=end].rotate_right(1);
 }
 
 // The hash of names one after another, each after one byte of its length.
@@ -150,10 +99,73 @@ fn hash_names(slots: &[u8], numbers: &[u16]) -> [u8; 32]
     hasher.finish()
 }
 
-// The hash of the list of `count` names.
-pub fn list_hash(slots: &[u8], index: &[u16], count: u16) -> [u8; 32]
-    ensures { result ≡ list_hash slots.now index.now count }
-{
-    let kept = index.len().min(count as usize);
-    hash_names(slots, &index[0..kept])
+impl NameList<'_> {
+    // The slots' numbers in the order of the list.
+    fn numbers(&self) -> &[u16]
+        ensures { result.now ≡ take self.now.count self.now.index.now }
+    {
+        let kept = self.index.len().min(self.count as usize);
+        &self.index[..kept]
+    }
+
+    // The place at which a new name goes into the list, or why it is refused.
+    pub fn place_for(&self, name: &[u8]) -> Result<usize, Refusal>
+        ensures is { result ≡ place_for self.now.slots.now self.now.index.now self.now.count name.now }
+        ensures within { IfOk result (λ at. at ≤ self.now.count) }
+    {
+        let length = name.len();
+        if length == 0 || length > LONGEST_NAME {
+            return Err(Refusal::NameLength(length));
+        }
+        if self.count >= MOST_NAMES {
+            return Err(Refusal::NameTaken);
+        }
+        find(self.slots, self.numbers(), name).ok_or(Refusal::NameTaken)
+    }
+
+    // Where the next slot begins, if there is room for it and its number.
+    fn next_slot(&self) -> Option<usize>
+        ensures { result ≡ slot_for (length self.now.slots.now) (length self.now.index.now) self.now.count }
+    {
+        let count = self.count as usize;
+        let slot = SLOT * count;
+        if self.slots.len() < slot + SLOT || self.index.len() <= count {
+            return None;
+        }
+        Some(slot)
+    }
+
+    // One entry into the list; a refusal changes nothing.
+    pub fn enter(&mut self, name: &[u8]) -> Result<(), Refusal>
+        ensures same_slots { self.new.slots.ghost_name ≡ self.old.slots.ghost_name }
+        ensures same_index { self.new.index.ghost_name ≡ self.old.index.ghost_name }
+        ensures answer { result ≡ done (entered self.old.slots.now self.old.index.now self.old.count name.now).answer }
+        ensures count { self.new.count ≡ number_or (entered self.old.slots.now self.old.index.now self.old.count name.now).answer self.old.count }
+        ensures slots { self.new.slots.now ≡ (entered self.old.slots.now self.old.index.now self.old.count name.now).slots }
+        ensures index { self.new.index.now ≡ (entered self.old.slots.now self.old.index.now self.old.count name.now).index }
+    {
+        let at = self.place_for(name)?;
+        let slot = self.next_slot().ok_or(Refusal::NoRoom(Lent::List))?;
+        write_name(self.slots, slot, name);
+        insert_number(self.index, self.count, at);
+        self.count += 1;
+        Ok(())
+    }
+
+    // Name number `number` of the list, as a part of the bytes; none of that number is no bytes.
+    pub fn name(&self, number: u16) -> &[u8]
+        ensures { result.now ≡ slice_index_or (map (name_in self.now.slots.now) self.now.index.now) number [] }
+    {
+        match self.index.get(number as usize) {
+            Some(slot) => name_in(self.slots, *slot),
+            None => &self.slots[..0],
+        }
+    }
+
+    // The hash of the list.
+    pub fn hash(&self) -> [u8; 32]
+        ensures { result ≡ list_hash self.now.slots.now self.now.index.now self.now.count }
+    {
+        hash_names(self.slots, self.numbers())
+    }
 }
