@@ -1,43 +1,30 @@
 // draw STEPS [PROTOCOL]: runs a file of steps, prints what comes of it, and writes the protocol of a draw that ends.
 #![tactic(auto)]
 
-use anyhow::anyhow;
+use anyhow::{Context, anyhow, bail};
+use program::finish;
 use runs::{Ending, Report, draw};
 use std::process::ExitCode;
 use std::{env, fs};
 
 const USAGE: &str = "usage: draw STEPS [PROTOCOL]";
 
-// The file of steps, and the file for the protocol if one is given.
-fn arguments(rt: &HostRuntime) -> anyhow::Result<(String, Option<String>)> {
-    let mut words = env::args(rt)?;
-    let _program = words.next();
-    let Some(steps) = words.next() else {
-        return Err(anyhow!(USAGE));
-    };
-    let protocol = words.next();
-    if words.next().is_some() {
-        return Err(anyhow!(USAGE));
-    }
-    Ok((steps, protocol))
-}
-
-// Writes a file whole or not at all: beside its place first, and then renamed.
+// Writes a file whole or not at all: beside its place first, and then renamed. No contract can promise what a file system
+// does, so no crate has this for both programs that save.
 fn save(rt: &HostRuntime, path: &str, bytes: &[u8]) -> anyhow::Result<()> {
     let beside = format!(in rt.alloc(); "{path}.part")?;
     let saved = match fs::write(rt, beside.as_str(), bytes) {
         Ok(()) => fs::rename(rt, beside.as_str(), path),
         Err(e) => Err(e),
     };
-    if let Err(e) = saved {
+    if saved.is_err() {
         let _ = fs::remove_file(rt, beside.as_str());
-        return Err(anyhow!("cannot write {path}: {e}"));
     }
-    Ok(())
+    saved.context(format_args!("cannot write {path}"))
 }
 
 // Prints a report; the protocol is saved before the summary is printed, so that nobody reads of a draw that was lost.
-fn tell(rt: &HostRuntime, report: Report, protocol_path: Option<String>) -> anyhow::Result<()> {
+fn tell(rt: &HostRuntime, report: Report, path: Option<&String>) -> anyhow::Result<()> {
     let Report {
         refusals,
         summary,
@@ -51,7 +38,7 @@ fn tell(rt: &HostRuntime, report: Report, protocol_path: Option<String>) -> anyh
         Ending::Unfinished => return Err(anyhow!("the steps end before the draw is closed")),
         Ending::Cut => return Err(anyhow!("the file ends inside a step")),
     }
-    if let Some(path) = protocol_path {
+    if let Some(path) = path {
         save(rt, path.as_str(), protocol.as_slice())?;
     }
     rt.print(summary.as_str())?;
@@ -59,26 +46,22 @@ fn tell(rt: &HostRuntime, report: Report, protocol_path: Option<String>) -> anyh
     Ok(())
 }
 
-fn run(rt: &HostRuntime) -> anyhow::Result<()> {
-    let (steps, protocol_path) = arguments(rt)?;
+fn run(rt: &HostRuntime) -> anyhow::Result<bool> {
+    let words: Vec<String> = env::args(rt)?.skip(1).collect(rt.alloc())?;
+    let (steps, protocol) = match words.as_slice() {
+        [steps] => (steps, None),
+        [steps, protocol] => (steps, Some(protocol)),
+        _ => bail!(USAGE),
+    };
     if steps.as_str() == "--help" {
         println!(rt; "{USAGE}")?;
-        return Ok(());
+        return Ok(true);
     }
-    let file = match fs::read(rt, steps.as_str()) {
-        Ok(file) => file,
-        Err(e) => return Err(anyhow!("cannot read {steps}: {e}")),
-    };
-    let report = draw(rt.alloc(), file.as_slice())?;
-    tell(rt, report, protocol_path)
+    let file = fs::read(rt, steps.as_str()).context(format_args!("cannot read {steps}"))?;
+    tell(rt, draw(rt.alloc(), file.as_slice())?, protocol)?;
+    Ok(true)
 }
 
 fn main(rt: HostRuntime) -> ExitCode {
-    match run(&rt) {
-        Ok(()) => ExitCode::SUCCESS,
-        Err(e) => {
-            let _ = eprintln!(rt; "draw: {e}");
-            ExitCode::FAILURE
-        }
-    }
+    finish(&rt, "draw", run(&rt))
 }

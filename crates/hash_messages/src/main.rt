@@ -4,7 +4,8 @@
 
 ghost use Rattle.std.specs.Prelude.{◌<◌, length, IfSome};
 
-use anyhow::anyhow;
+use anyhow::{Context, bail};
+use program::finish;
 use std::alloc::Global;
 use std::fmt::Write;
 use std::process::ExitCode;
@@ -37,7 +38,7 @@ fn hashes(heap: Global, bytes: &[u8]) -> anyhow::Result<String> {
     let mut left = bytes;
     while !left.is_empty() {
         let Some((message, after)) = first_message(left) else {
-            return Err(anyhow!("the file ends inside a message"));
+            bail!("the file ends inside a message");
         };
         push_line(&mut text, sha256::hash(message))?;
         left = after;
@@ -45,30 +46,17 @@ fn hashes(heap: Global, bytes: &[u8]) -> anyhow::Result<String> {
     Ok(text)
 }
 
-fn run(rt: &HostRuntime) -> anyhow::Result<()> {
-    let mut args = env::args(rt)?;
-    let _program = args.next();
-    let Some(name) = args.next() else {
-        return Err(anyhow!("usage: hash_messages FILE"));
+fn run(rt: &HostRuntime) -> anyhow::Result<bool> {
+    let words: Vec<String> = env::args(rt)?.skip(1).collect(rt.alloc())?;
+    let [name] = words.as_slice() else {
+        bail!("usage: hash_messages FILE");
     };
-    if args.next().is_some() {
-        return Err(anyhow!("usage: hash_messages FILE"));
-    }
-    let bytes = match fs::read(rt, name.as_str()) {
-        Ok(bytes) => bytes,
-        Err(e) => return Err(anyhow!("cannot read {name}: {e}")),
-    };
+    let bytes = fs::read(rt, name.as_str()).context(format_args!("cannot read {name}"))?;
     let text = hashes(rt.alloc(), bytes.as_slice())?;
     print!(rt; "{text}")?;
-    Ok(())
+    Ok(true)
 }
 
 fn main(rt: HostRuntime) -> ExitCode {
-    match run(&rt) {
-        Ok(()) => ExitCode::SUCCESS,
-        Err(e) => {
-            let _ = eprintln!(rt; "hash_messages: {e}");
-            ExitCode::FAILURE
-        }
-    }
+    finish(&rt, "hash_messages", run(&rt))
 }

@@ -3,8 +3,9 @@
 // the protocol is accepted and the name has a place, else 1.
 #![tactic(auto)]
 
-use anyhow::anyhow;
+use anyhow::{Context, bail};
 use output::between;
+use program::finish;
 use report_text::{put_place, put_report};
 use std::process::ExitCode;
 use std::{env, fs};
@@ -14,25 +15,8 @@ const USAGE: &str = "usage: report PROTOCOL [--find NAME]";
 // A line for each of 2,000 names has 160 bytes at most, one for each of 255 parties 24, and the rest is short.
 const TEXT: usize = 393_216;
 
-// The protocol's file, and the name to find if one is given.
-fn arguments(rt: &HostRuntime) -> anyhow::Result<(String, Option<String>)> {
-    let mut words = env::args(rt)?;
-    let _program = words.next();
-    let Some(protocol) = words.next() else {
-        return Err(anyhow!(USAGE));
-    };
-    let Some(option) = words.next() else {
-        return Ok((protocol, None));
-    };
-    let name = words.next();
-    if option.as_str() != "--find" || name.is_none() || words.next().is_some() {
-        return Err(anyhow!(USAGE));
-    }
-    Ok((protocol, name))
-}
-
 // Prints what there is to tell, and answers whether all is well. What is amiss goes to stderr.
-fn tell(rt: &HostRuntime, protocol: &[u8], name: &Option<String>) -> anyhow::Result<bool> {
+fn tell(rt: &HostRuntime, protocol: &[u8], name: Option<&String>) -> anyhow::Result<bool> {
     let mut text = vec![in rt.alloc(); 0u8; TEXT]?;
     let (end, well) = match name {
         Some(name) => put_place(
@@ -54,25 +38,20 @@ fn tell(rt: &HostRuntime, protocol: &[u8], name: &Option<String>) -> anyhow::Res
 }
 
 fn run(rt: &HostRuntime) -> anyhow::Result<bool> {
-    let (path, name) = arguments(rt)?;
+    let words: Vec<String> = env::args(rt)?.skip(1).collect(rt.alloc())?;
+    let (path, name) = match words.as_slice() {
+        [path] => (path, None),
+        [path, option, name] if option.as_str() == "--find" => (path, Some(name)),
+        _ => bail!(USAGE),
+    };
     if path.as_str() == "--help" {
         println!(rt; "{USAGE}")?;
         return Ok(true);
     }
-    let protocol = match fs::read(rt, path.as_str()) {
-        Ok(protocol) => protocol,
-        Err(e) => return Err(anyhow!("cannot read {path}: {e}")),
-    };
-    tell(rt, protocol.as_slice(), &name)
+    let protocol = fs::read(rt, path.as_str()).context(format_args!("cannot read {path}"))?;
+    tell(rt, protocol.as_slice(), name)
 }
 
 fn main(rt: HostRuntime) -> ExitCode {
-    match run(&rt) {
-        Ok(true) => ExitCode::SUCCESS,
-        Ok(false) => ExitCode::FAILURE,
-        Err(e) => {
-            let _ = eprintln!(rt; "report: {e}");
-            ExitCode::FAILURE
-        }
-    }
+    finish(&rt, "report", run(&rt))
 }

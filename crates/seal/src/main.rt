@@ -2,9 +2,10 @@
 // party's number, the seal in hex, and until when to keep the opening secret. The status is 0 if there is a seal, else 1.
 #![tactic(auto)]
 
-use anyhow::anyhow;
+use anyhow::{Context, bail, ensure};
 use ceremony::{Draw, Listing, Memory};
 use output::Output;
+use program::finish;
 use seal_text::put_seal;
 use std::process::ExitCode;
 use std::{env, fs};
@@ -21,30 +22,8 @@ const LONGEST: usize = 8_192;
 // The longest text has 155 bytes.
 const TEXT: usize = 256;
 
-// The words of the command line: all three, or the first alone, which may ask for help.
-fn arguments(rt: &HostRuntime) -> anyhow::Result<(String, Option<(String, String)>)> {
-    let mut words = env::args(rt)?;
-    let _program = words.next();
-    let Some(steps) = words.next() else {
-        return Err(anyhow!(USAGE));
-    };
-    let Some(party) = words.next() else {
-        return Ok((steps, None));
-    };
-    let Some(opening) = words.next() else {
-        return Err(anyhow!(USAGE));
-    };
-    if words.next().is_some() {
-        return Err(anyhow!(USAGE));
-    }
-    Ok((steps, Some((party, opening))))
-}
-
 fn read(rt: &HostRuntime, path: &str) -> anyhow::Result<Vec<u8>> {
-    match fs::read(rt, path) {
-        Ok(bytes) => Ok(bytes),
-        Err(e) => Err(anyhow!("cannot read {path}: {e}")),
-    }
+    fs::read(rt, path).context(format_args!("cannot read {path}"))
 }
 
 // Prints the seal, or on stderr why there is none.
@@ -65,9 +44,7 @@ fn tell(rt: &HostRuntime, file: &[u8], party: u8, opening: &[u8]) -> anyhow::Res
     // The lines for refused steps are not printed: the party asks for its seal alone.
     let mut refusals = String::new(heap);
     let (last, cut) = runs::run::run(Draw::Listing(Listing::begin(memory)), file, &mut refusals)?;
-    if cut {
-        return Err(anyhow!("the file of steps ends inside a step"));
-    }
+    ensure!(!cut, "the file of steps ends inside a step");
     let mut text = [0; TEXT];
     let mut out = Output {
         memory: &mut text,
@@ -82,29 +59,24 @@ fn tell(rt: &HostRuntime, file: &[u8], party: u8, opening: &[u8]) -> anyhow::Res
 }
 
 fn run(rt: &HostRuntime) -> anyhow::Result<bool> {
-    let (steps, rest) = arguments(rt)?;
-    if steps.as_str() == "--help" {
-        println!(rt; "{USAGE}")?;
-        return Ok(true);
+    let words: Vec<String> = env::args(rt)?.skip(1).collect(rt.alloc())?;
+    match words.as_slice() {
+        [help] | [help, _, _] if help.as_str() == "--help" => {
+            println!(rt; "{USAGE}")?;
+            Ok(true)
+        }
+        [steps, party, opening] => {
+            let Ok(party) = party.as_str().parse::<u8>() else {
+                bail!("a party has a number from 0 to 254");
+            };
+            let file = read(rt, steps.as_str())?;
+            let opening = read(rt, opening.as_str())?;
+            tell(rt, file.as_slice(), party, opening.as_slice())
+        }
+        _ => bail!(USAGE),
     }
-    let Some((number, path)) = rest else {
-        return Err(anyhow!(USAGE));
-    };
-    let Ok(party) = number.as_str().parse::<u8>() else {
-        return Err(anyhow!("a party has a number from 0 to 254"));
-    };
-    let file = read(rt, steps.as_str())?;
-    let opening = read(rt, path.as_str())?;
-    tell(rt, file.as_slice(), party, opening.as_slice())
 }
 
 fn main(rt: HostRuntime) -> ExitCode {
-    match run(&rt) {
-        Ok(true) => ExitCode::SUCCESS,
-        Ok(false) => ExitCode::FAILURE,
-        Err(e) => {
-            let _ = eprintln!(rt; "seal: {e}");
-            ExitCode::FAILURE
-        }
-    }
+    finish(&rt, "seal", run(&rt))
 }

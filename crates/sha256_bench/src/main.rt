@@ -2,7 +2,8 @@
 // Each but the first begins with the hash of the one before, so that none can be left out, and the last hash is printed.
 #![tactic(auto)]
 
-use anyhow::anyhow;
+use anyhow::{Context, ensure};
+use program::finish;
 use std::env;
 use std::process::ExitCode;
 
@@ -21,37 +22,26 @@ fn last_hash(message: &mut [u8], count: u64) -> [u8; 32] {
 }
 
 fn number(text: Option<String>, otherwise: u64) -> anyhow::Result<u64> {
-    let Some(text) = text else {
-        return Ok(otherwise);
-    };
-    let Ok(number) = text.as_str().parse::<u64>() else {
-        return Err(anyhow!(USAGE));
-    };
-    Ok(number)
+    match text {
+        Some(text) => text.as_str().parse::<u64>().ok().context(USAGE),
+        None => Ok(otherwise),
+    }
 }
 
-fn run(rt: &HostRuntime) -> anyhow::Result<()> {
+fn run(rt: &HostRuntime) -> anyhow::Result<bool> {
     let mut args = env::args(rt)?;
     let _program = args.next();
     let count = number(args.next(), 16)?;
     let size = number(args.next(), 8192)?;
-    if size < 32 || size > 8192 {
-        return Err(anyhow!(USAGE));
-    }
+    ensure!((32..=8192).contains(&size), USAGE);
     let mut message = [97u8; 8192];
     for byte in last_hash(&mut message[0..size as usize], count) {
         print!(rt; "{byte:02x}")?;
     }
     println!(rt; "")?;
-    Ok(())
+    Ok(true)
 }
 
 fn main(rt: HostRuntime) -> ExitCode {
-    match run(&rt) {
-        Ok(()) => ExitCode::SUCCESS,
-        Err(e) => {
-            let _ = eprintln!(rt; "sha256_bench: {e}");
-            ExitCode::FAILURE
-        }
-    }
+    finish(&rt, "sha256_bench", run(&rt))
 }

@@ -2,9 +2,10 @@
 // steps --show STEPS: prints a file of steps as such a text.
 #![tactic(auto)]
 
-use anyhow::anyhow;
+use anyhow::{Context, anyhow, bail};
 use names_text::is_text;
 use notation::{BadLine, NamedFile, next_file, put_bad_line, read, show};
+use program::finish;
 use std::alloc::{AllocError, Global};
 use std::process::ExitCode;
 use std::str::from_utf8;
@@ -12,39 +13,22 @@ use std::{env, fs};
 
 const USAGE: &str = "usage: steps TEXT STEPS, or steps --show STEPS";
 
-// The two words that the program was given; after --help none is needed.
-fn arguments(rt: &HostRuntime) -> anyhow::Result<(String, Option<String>)> {
-    let mut words = env::args(rt)?;
-    let _program = words.next();
-    let Some(first) = words.next() else {
-        return Err(anyhow!(USAGE));
-    };
-    let second = words.next();
-    if words.next().is_some() {
-        return Err(anyhow!(USAGE));
-    }
-    Ok((first, second))
-}
-
 fn read_file(rt: &HostRuntime, path: &str) -> anyhow::Result<Vec<u8>> {
-    match fs::read(rt, path) {
-        Ok(bytes) => Ok(bytes),
-        Err(e) => Err(anyhow!("cannot read {path}: {e}")),
-    }
+    fs::read(rt, path).context(format_args!("cannot read {path}"))
 }
 
-// Writes a file whole or not at all: beside its place first, and then renamed.
+// Writes a file whole or not at all: beside its place first, and then renamed. No contract can promise what a file system
+// does, so no crate has this for both programs that save.
 fn save(rt: &HostRuntime, path: &str, bytes: &[u8]) -> anyhow::Result<()> {
     let beside = format!(in rt.alloc(); "{path}.part")?;
     let saved = match fs::write(rt, beside.as_str(), bytes) {
         Ok(()) => fs::rename(rt, beside.as_str(), path),
         Err(e) => Err(e),
     };
-    if let Err(e) = saved {
+    if saved.is_err() {
         let _ = fs::remove_file(rt, beside.as_str());
-        return Err(anyhow!("cannot write {path}: {e}"));
     }
-    Ok(())
+    saved.context(format_args!("cannot write {path}"))
 }
 
 // Adds the contents of a file as a step. What is longer than a step is cut, and still too long for an opening.
@@ -125,34 +109,31 @@ fn text_of(heap: Global, file: &[u8]) -> anyhow::Result<Vec<u8>> {
     Err(anyhow!("there are too many steps"))
 }
 
-fn run(rt: &HostRuntime) -> anyhow::Result<()> {
-    let (first, second) = arguments(rt)?;
-    if first.as_str() == "--help" {
-        println!(rt; "{USAGE}")?;
-        return Ok(());
-    }
-    let Some(path) = second else {
-        return Err(anyhow!(USAGE));
-    };
-    if first.as_str() == "--show" {
-        let file = read_file(rt, path.as_str())?;
-        let text = text_of(rt.alloc(), file.as_slice())?;
-        rt.write_all(text.as_slice())?;
-        return Ok(());
-    }
-    let text = read_file(rt, first.as_str())?;
-    let files = contents(rt, text.as_slice())?;
-    let steps = steps_of(rt.alloc(), text.as_slice(), files.as_slice())?;
-    save(rt, path.as_str(), steps.as_slice())
+fn print_shown(rt: &HostRuntime, path: &str) -> anyhow::Result<()> {
+    let file = read_file(rt, path)?;
+    let text = text_of(rt.alloc(), file.as_slice())?;
+    rt.write_all(text.as_slice())?;
+    Ok(())
 }
 
-// An error that `main` returned would be printed a second time, so it answers with a status.
-fn main(rt: HostRuntime) -> ExitCode {
-    match run(&rt) {
-        Ok(()) => ExitCode::SUCCESS,
-        Err(e) => {
-            let _ = eprintln!(rt; "steps: {e}");
-            ExitCode::FAILURE
-        }
+fn write_steps(rt: &HostRuntime, text: &str, path: &str) -> anyhow::Result<()> {
+    let text = read_file(rt, text)?;
+    let files = contents(rt, text.as_slice())?;
+    let steps = steps_of(rt.alloc(), text.as_slice(), files.as_slice())?;
+    save(rt, path, steps.as_slice())
+}
+
+fn run(rt: &HostRuntime) -> anyhow::Result<bool> {
+    let words: Vec<String> = env::args(rt)?.skip(1).collect(rt.alloc())?;
+    match words.as_slice() {
+        [help] | [help, _] if help.as_str() == "--help" => println!(rt; "{USAGE}")?,
+        [option, steps] if option.as_str() == "--show" => print_shown(rt, steps.as_str())?,
+        [text, steps] => write_steps(rt, text.as_str(), steps.as_str())?,
+        _ => bail!(USAGE),
     }
+    Ok(true)
+}
+
+fn main(rt: HostRuntime) -> ExitCode {
+    finish(&rt, "steps", run(&rt))
 }
