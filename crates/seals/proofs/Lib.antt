@@ -1,3 +1,4 @@
 pub mod Pastes
 pub mod Messages
 pub mod Parts
+pub mod Counted

@@ -8,8 +8,9 @@
 ghost use Rattle.std.specs.Prelude.{◌≡◌, ℕ, ◌+◌, ◌*◌, ◌^◌, ◌<◌, ◌≤◌, Bool, List, ◌∷◌, ◌++◌, length, take, drop};
 ghost use Rattle.std.proofs.Math.Seq.{paste};
 ghost use Rattle.std.specs.Str.{bytes_eq};
+ghost use Rattle.refusals.specs.Answers.{done, number_or};
 ghost use Rattle.seals.specs.Seal.{seal_of, TwoOpenings};
-ghost use Rattle.seals.specs.Records.{record_size, has_opened, seal_in};
+ghost use Rattle.seals.specs.Records.{record_size, has_opened, opened_count, seal_in};
 ghost use Rattle.seals.specs.Steps.{sealed, opened, opening_fault};
 
 use refusals::{Lent, Refusal};
@@ -20,6 +21,19 @@ pub const SALT: usize = 32;
 pub const SEAL: usize = 32;
 
 pub const MOST_PARTIES: u8 = 255;
+
+// How many bytes of bits each party puts in.
+pub const LEAST_BITS: u16 = 64;
+
+pub const MOST_BITS: u16 = 8192;
+
+// The parties' records in memory that is lent for them, where each party puts in `length` bytes.
+#[derive(Drop)]
+pub struct Parties<'a> {
+    pub records: &'a mut [u8],
+    pub length: u16,
+    pub count: u8,
+}
 
 // The seal that an opening gives.
 pub fn seal(context: &[u8], party: u8, opening: &[u8]) -> [u8; 32]
@@ -41,99 +55,100 @@ fn record_at(length: u16, party: u8) -> usize
     (SEAL + 1 + SALT + length as usize) * party as usize
 }
 
-// Whether a party has opened.
-pub fn has_opened(seals: &[u8], length: u16, party: u8) -> bool
-    ensures { result ≡ has_opened seals.now length party }
-{
-    let at = record_at(length, party) + SEAL;
-    if at >= seals.len() {
-        return false;
-    }
-    seals[at] != 0
-}
-
-// Whether the hash is the seal that stands at a place, as far as the slice goes.
-fn is_seal(hash: &[u8], seals: &[u8], at: usize) -> bool
-    requires { at + 32 < 2 ^ 64 }
-    ensures { result ≡ bytes_eq hash.now (take 32 (drop at seals.now)) }
-{
-    let from = at.min(seals.len());
-    let end = (at + SEAL).min(seals.len());
-    hash == &seals[from..end]
-}
-
 // Writes bytes over those from a place on.
-fn write(seals: &mut [u8], at: usize, bytes: &[u8])
-    requires { at + length bytes.now ≤ length seals.old }
-    ensures { seals.new ≡ paste seals.old at bytes.now (length bytes.now) }
+fn write(records: &mut [u8], at: usize, bytes: &[u8])
+    requires { at + length bytes.now ≤ length records.old }
+    ensures { records.new ≡ paste records.old at bytes.now (length bytes.now) }
 {
     let end = at + bytes.len();
-    seals[at..end].copy_from_slice(bytes);
+    records[at..end].copy_from_slice(bytes);
 }
 
-// One more seal, with room for its opening: the new number of parties, or a refusal, which changes nothing.
-pub fn add_seal(seals: &mut [u8], length: u16, parties: u8, seal: &[u8]) -> Result<u8, Refusal>
-    ensures answer { result ≡ (sealed seals.old length parties seal.now).answer }
-    ensures seals { seals.new ≡ (sealed seals.old length parties seal.now).seals }
-{
-    if seal.len() != SEAL {
-        return Err(Refusal::SealLength(seal.len()));
+impl Parties<'_> {
+    // Whether a party has opened.
+    pub fn has_opened(&self, party: u8) -> bool
+        ensures { result ≡ has_opened self.now.records.now self.now.length party }
+    {
+        let at = record_at(self.length, party) + SEAL;
+        self.records.get(at).is_some_and(|mark| *mark != 0)
     }
-    if parties == MOST_PARTIES {
-        return Err(Refusal::TooManySeals);
-    }
-    let at = record_at(length, parties);
-    if seals.len() < record_at(length, parties + 1) {
-        return Err(Refusal::NoRoom(Lent::Seals));
-    }
-    write(seals, at, seal);
-    seals[at + SEAL] = 0;
-    Ok(parties + 1)
-}
 
-// The place at which an opening is to be written, or why it is refused.
-fn place_for(
-    seals: &[u8],
-    length: u16,
-    parties: u8,
-    context: &[u8],
-    party: u8,
-    opening: &[u8],
-) -> Result<usize, Refusal>
-    ensures { result ≡ opening_fault seals.now length parties context.now party opening.now }
-{
-    if party >= parties || has_opened(seals, length, party) {
-        return Err(Refusal::NoSuchParty(party));
+    // How many parties have opened.
+    pub fn opened_count(&self) -> u8
+        ensures is { result ≡ opened_count self.now.records.now self.now.length self.now.count }
+        ensures few { result ≤ self.now.count }
+    {
+        (0..self.count)
+            .filter(|party| self.has_opened(*party))
+            .count() as u8
     }
-    if opening.len() != SALT + length as usize {
-        return Err(Refusal::OpeningLength(opening.len()));
-    }
-    let at = record_at(length, party);
-    if !is_seal(&seal(context, party, opening), seals, at) {
-        return Err(Refusal::WrongOpening(party));
-    }
-    if seals.len() < at + SEAL + 1 + opening.len() {
-        return Err(Refusal::NoRoom(Lent::Seals));
-    }
-    Ok(at + SEAL)
-}
 
-// An opening is taken if it gives the party's seal; a refusal changes nothing.
-pub fn open(
-    seals: &mut [u8],
-    length: u16,
-    parties: u8,
-    context: &[u8],
-    party: u8,
-    opening: &[u8],
-) -> Result<(), Refusal>
-    ensures answer { result ≡ (opened seals.old length parties context.now party opening.now).answer }
-    ensures seals { seals.new ≡ (opened seals.old length parties context.now party opening.now).seals }
-{
-    let at = place_for(seals, length, parties, context, party, opening)?;
-    seals[at] = 1;
-    write(seals, at + 1, opening);
-    Ok(())
+    // The seal of a party, as far as the records go.
+    fn seal_in(&self, party: u8) -> &[u8]
+        ensures { result.now ≡ seal_in self.now.records.now self.now.length party }
+    {
+        let at = record_at(self.length, party).min(self.records.len());
+        let record = &self.records[at..];
+        &record[..SEAL.min(record.len())]
+    }
+
+    // One more seal, with room for its opening; a refusal changes nothing.
+    pub fn add(&mut self, seal: &[u8]) -> Result<(), Refusal>
+        ensures same_records { self.new.records.ghost_name ≡ self.old.records.ghost_name }
+        ensures same_length { self.new.length ≡ self.old.length }
+        ensures answer { result ≡ done (sealed self.old.records.now self.old.length self.old.count seal.now).answer }
+        ensures count { self.new.count ≡ number_or (sealed self.old.records.now self.old.length self.old.count seal.now).answer self.old.count }
+        ensures records { self.new.records.now ≡ (sealed self.old.records.now self.old.length self.old.count seal.now).seals }
+    {
+        if seal.len() != SEAL {
+            return Err(Refusal::SealLength(seal.len()));
+        }
+        if self.count == MOST_PARTIES {
+            return Err(Refusal::TooManySeals);
+        }
+        let at = record_at(self.length, self.count);
+        if self.records.len() < record_at(self.length, self.count + 1) {
+            return Err(Refusal::NoRoom(Lent::Seals));
+        }
+        write(self.records, at, seal);
+        self.records[at + SEAL] = 0;
+        self.count += 1;
+        Ok(())
+    }
+
+    // The place at which an opening is to be written, or why it is refused.
+    fn place_for(&self, context: &[u8], party: u8, opening: &[u8]) -> Result<usize, Refusal>
+        ensures { result ≡ opening_fault self.now.records.now self.now.length self.now.count context.now party opening.now }
+    {
+        if party >= self.count || self.has_opened(party) {
+            return Err(Refusal::NoSuchParty(party));
+        }
+        if opening.len() != SALT + self.length as usize {
+            return Err(Refusal::OpeningLength(opening.len()));
+        }
+        if &seal(context, party, opening)[..] != self.seal_in(party) {
+            return Err(Refusal::WrongOpening(party));
+        }
+        let at = record_at(self.length, party) + SEAL;
+        if self.records.len() < at + 1 + opening.len() {
+            return Err(Refusal::NoRoom(Lent::Seals));
+        }
+        Ok(at)
+    }
+
+    // An opening is taken if it gives the party's seal; a refusal changes nothing.
+    pub fn open(&mut self, context: &[u8], party: u8, opening: &[u8]) -> Result<(), Refusal>
+        ensures same_records { self.new.records.ghost_name ≡ self.old.records.ghost_name }
+        ensures same_length { self.new.length ≡ self.old.length }
+        ensures same_count { self.new.count ≡ self.old.count }
+        ensures answer { result ≡ (opened self.old.records.now self.old.length self.old.count context.now party opening.now).answer }
+        ensures records { self.new.records.now ≡ (opened self.old.records.now self.old.length self.old.count context.now party opening.now).seals }
+    {
+        let at = self.place_for(context, party, opening)?;
+        self.records[at] = 1;
+        write(self.records, at + 1, opening);
+        Ok(())
+    }
 }
 
 // Two different openings of one seal are two different rows of bytes with one hash.
