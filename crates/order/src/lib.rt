@@ -9,7 +9,6 @@ ghost use Rattle.order.specs.Laws.{EachOnce, ExactlyRead};
 ghost use Rattle.order.specs.Orders.{numbers_from, without};
 ghost use Rattle.uniform.specs.Bits.{bits};
 
-use shifts::move_back;
 use uniform::draw_below;
 
 // Names have numbers of 16 bits, of which the last is no name's.
@@ -42,8 +41,8 @@ fn number(names: &mut [u16])
     requires { length names.old < 2 ^ 16 }
     ensures { names.new ≡ numbers_from 0 (length names.old) }
 {
-    for i in 0..names.len() {
-        names[i] = i as u16;
+    for (i, name) in names.iter_mut().enumerate() {
+        *name = i as u16;
     }
 }
 
@@ -79,21 +78,11 @@ fn take_out(names: &mut [u16], k: usize) -> (u16, usize)
     ensures after { take (length names.old - 1) (drop result.1 names.new) ≡ without k names.old }
 {
     let name = names[k];
-    let n = names.len();
-    if k < n / 2 {
-        move_back(&mut names[0..k + 1]);
+    if k < names.len() / 2 {
+        names.copy_within(..k, 1);
         (name, 1)
     } else {
-        move_front(&mut names[k..n]);
+        names[k..].copy_within(1.., 0);
         (name, 0)
-    }
-}
-
-// The names behind the first, each a place further in front.
-fn move_front(names: &mut [u16])
-    ensures { take (length names.old - 1) names.new ≡ drop 1 names.old }
-{
-    for i in 1..names.len() {
-        names[i - 1] = names[i];
     }
 }

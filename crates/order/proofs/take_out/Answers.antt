@@ -1,21 +1,12 @@
-use Rattle.std.proofs.Common.{◌+◌, ◌-◌, ◌/◌, length, take, sym, refl, arith}
-use Rattle.order.proofs.Moves.{gap_closed, gap_opened}
+use Rattle.std.proofs.Common.{◌-◌, length, take, drop}
+use Rattle.order.proofs.Moves.{front_moved, gap_closed, gap_opened}
 use Rattle.order.proofs.take_out.Goals as goal
-use Rattle.shifts.proofs.Backs.{behind_first}
-use Rattle.std.proofs.lemmas.Bool.{cond-true, cond-false, lt-ltb, le-ltb}
 
-pub returns-then-k-n : goal.returns-then-k-n
-returns-then-k-n c =
-    record {
-      is = refl;
-      first = sym (cond-true _ 1 0 (lt-ltb c.args.k (length c.args.names.now / 2) c.if-k-n.true));
-      after = gap_opened c.args.k c.args.names.now c.move_back.new.row c.requires (omega arith) (behind_first (take (c.args.k + 1 - 0) c.args.names.now) _ c.move_back.ensures);
-    }
+pub returns-then-k-names-clause-after : goal.returns-then-k-names-clause-after
+returns-then-k-names-clause-after c = gap_opened c.args.k c.args.names.now _ c.requires c.copy_within.ensures.after
 
-pub returns-else-k-n : goal.returns-else-k-n
-returns-else-k-n c =
-    record {
-      is = refl;
-      first = sym (cond-false _ 1 0 (le-ltb c.args.k (length c.args.names.now / 2) c.if-k-n.false));
-      after = gap_closed c.args.k c.args.names.now c.move_front.new.names c.requires c.move_front.ensures;
-    }
+pub returns-else-k-names-clause-after : goal.returns-else-k-names-clause-after
+returns-else-k-names-clause-after c =
+    let k = c.args.k in
+    let names = c.args.names.now in
+    gap_closed k names _ c.requires (front_moved (take (length names - k) (drop k names)) _ c.copy_within-else-k-names.ensures.after)
