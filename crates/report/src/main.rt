@@ -4,37 +4,54 @@
 #![tactic(auto)]
 
 use anyhow::{Context, bail};
-use output::between;
+use output::Output;
 use program::finish;
 use report_text::{put_place, put_report};
+use std::alloc::{AllocError, Global};
 use std::process::ExitCode;
-use std::{env, fs};
+use std::{env, fs, io};
 
 const USAGE: &str = "usage: report PROTOCOL [--find NAME]";
 
-// A line for each of 2,000 names has 160 bytes at most, one for each of 255 parties 24, and the rest is short.
-const TEXT: usize = 393_216;
-
-// Prints what there is to tell, and answers whether all is well. What is amiss goes to stderr.
-fn tell(rt: &HostRuntime, protocol: &[u8], name: Option<&String>) -> anyhow::Result<bool> {
-    let mut text = vec![in rt.alloc(); 0u8; TEXT]?;
-    let (end, well) = match name {
-        Some(name) => put_place(
-            rt.alloc(),
-            text.as_mut_slice(),
-            0,
-            protocol,
-            name.as_bytes(),
-        )?,
-        None => put_report(rt.alloc(), text.as_mut_slice(), 0, protocol)?,
-    };
-    let told = between(text.as_slice(), 0, end);
-    if well {
-        rt.write_all(told)?;
-    } else {
-        rt.stderr().write_all(told)?;
+// Writes what there is to tell, and answers whether all is well.
+fn put(
+    heap: Global,
+    out: &mut Output,
+    protocol: &[u8],
+    name: Option<&String>,
+) -> Result<bool, AllocError> {
+    match name {
+        Some(name) => Ok(put_place(heap, out, protocol, name.as_bytes())?.is_ok()),
+        None => Ok(put_report(heap, out, protocol)?.is_ok()),
     }
-    Ok(well)
+}
+
+// Prints what there is to tell, and answers whether all is well. What is amiss goes to stderr. Where the text reaches the
+// end of the memory there may be more, so twice as much is lent.
+fn tell(rt: &HostRuntime, protocol: &[u8], name: Option<&String>) -> anyhow::Result<bool> {
+    let mut size = protocol.len().saturating_mul(8).saturating_add(256);
+    for _ in 0..64 {
+        let mut text = vec![in rt.alloc(); 0u8; size]?;
+        let mut out = Output {
+            memory: text.as_mut_slice(),
+            at: 0,
+        };
+        let well = put(rt.alloc(), &mut out, protocol, name)?;
+        if out.at < size {
+            print(rt, out.written(), well)?;
+            return Ok(well);
+        }
+        size = size.saturating_mul(2);
+    }
+    bail!("there is too much to tell")
+}
+
+fn print(rt: &HostRuntime, text: &[u8], well: bool) -> io::Result<()> {
+    if well {
+        rt.write_all(text)
+    } else {
+        rt.stderr().write_all(text)
+    }
 }
 
 fn run(rt: &HostRuntime) -> anyhow::Result<bool> {

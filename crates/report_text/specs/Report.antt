@@ -1,14 +1,18 @@
 -- What is told of a protocol in words for people. Assumes nothing.
-use Rattle.std.specs.Prelude.{ℕ, ◌+◌, ◌*◌, Bool, true, false, cond, List, [], ◌∷◌, ◌++◌, map, Some, None, codes, decimal, Option, ◌==◌}
+use Rattle.std.specs.Prelude.{ℕ, ◌+◌, ◌*◌, cond, List, [], ◌∷◌, ◌++◌, map, position, Some, None, Ok, Err, codes, decimal, Option, Result}
+use Rattle.std.specs.Option.{option_map, ok_or}
 use Rattle.std.specs.List.{range_with_len, flat_map}
 use Rattle.std.specs.Str.{bytes_eq}
 use Rattle.names_text.specs.Text.{is_text}
 use Rattle.output.specs.Hex.{hex}
 use Rattle.refusals.specs.Numbered.{number, place}
 use Rattle.refusals.specs.declared.Refusal.{Refusal}
+use Rattle.refusals.specs.declared.Refusal.TheVariants.{ProtocolLength, OutOfRange, BadOpening}
 use Rattle.protocol.specs.Check.{Verdict, accepted, refused, verdict, drawing_of, hash_of}
 use Rattle.protocol.specs.Layout.{name_of, opened_in, bits_length}
 use Rattle.protocol.specs.Numbers.{bits_read}
+use Rattle.report_text.specs.declared.report.NoPlace.{NoPlace}
+use Rattle.report_text.specs.declared.report.NoPlace.TheVariants.{Refused, NoOrder, NotInList}
 
 -- 5 names, 3 parties, 2 opened
 abbrev pub counts_line : ℕ → ℕ → ℕ → List ℕ
@@ -53,17 +57,16 @@ abbrev pub order_lines : List ℕ → Option (List ℕ) → List ℕ
 order_lines bytes (Some ns) = place_lines bytes 1 ns
 order_lines bytes None = no_order
 
--- why a protocol is refused, by the number of the refusal
-abbrev pub reason : ℕ → List ℕ
-reason n =
-    cond (n == 11) (codes "the protocol ends too early, or goes on behind its end")
-    (cond (n == 12) (codes "a count, a length, a name or an opened byte is out of range, or a name is not above the one before")
-    (cond (n == 13) (codes "the opening of this party does not give its seal, or, at 255, no party opened")
-    (codes "the order is not the one that is drawn from the openings")))
+-- why a protocol is refused
+abbrev pub reason : Refusal → List ℕ
+reason (ProtocolLength at) = codes "the protocol ends too early, or goes on behind its end"
+reason (OutOfRange at) = codes "a count, a length, a name or an opened byte is out of range, or a name is not above the one before"
+reason (BadOpening party) = codes "the opening of this party does not give its seal, or, at 255, no party opened"
+reason why = codes "the order is not the one that is drawn from the openings"
 
 -- refused 12 at 5: and the reason
 abbrev pub sentence : Refusal → List ℕ
-sentence why = codes "refused " ++ (decimal (number why) ++ (codes " at " ++ (decimal (place why) ++ (codes ": " ++ (reason (number why) ++ codes "\n")))))
+sentence why = codes "refused " ++ (decimal (number why) ++ (codes " at " ++ (decimal (place why) ++ (codes ": " ++ (reason why ++ codes "\n")))))
 
 -- the report of a protocol
 abbrev pub told : List ℕ → Verdict → List ℕ
@@ -75,20 +78,28 @@ told bytes (refused why) = sentence why
 abbrev pub report : List ℕ → List ℕ
 report bytes = told bytes (verdict bytes)
 
--- the place of a name among names of which the first has place k
-unfoldable pub place_in : List ℕ → List ℕ → ℕ → List ℕ → Option ℕ
-place_in bytes x k [] = None
-place_in bytes x k (n ∷ ns) = cond (bytes_eq (name_of bytes n) x) (Some k) (place_in bytes x (k + 1) ns)
+abbrev pub accepted_or_refused : Verdict → Result (Unit {0}) Refusal
+accepted_or_refused (accepted names parties opened order) = Ok tt
+accepted_or_refused (refused why) = Err why
 
--- the place of one name alone, and whether there is one
-abbrev pub place_told : List ℕ → Option ℕ → List ℕ × Bool
-place_told x (Some k) = (place_line k x, true)
-place_told x None = (codes "no such name in the list\n", false)
+-- the place of a name in an order, counted from 1
+abbrev pub place_in : List ℕ → List ℕ → List ℕ → Option ℕ
+place_in bytes x ns = option_map (λ k. k + 1) (position (λ n. bytes_eq (name_of bytes n) x) ns)
 
-abbrev pub found : List ℕ → List ℕ → Verdict → List ℕ × Bool
-found bytes x (accepted names parties opened (Some ns)) = place_told x (place_in bytes x 1 ns)
-found bytes x (accepted names parties opened None) = (no_order, false)
-found bytes x (refused why) = (sentence why, false)
+-- the place of one name alone, or why there is none
+abbrev pub found : List ℕ → List ℕ → Verdict → Result ℕ NoPlace
+found bytes x (accepted names parties opened (Some ns)) = ok_or (place_in bytes x ns) NotInList
+found bytes x (accepted names parties opened None) = Err NoOrder
+found bytes x (refused why) = Err (Refused why)
 
-abbrev pub place_of : List ℕ → List ℕ → List ℕ × Bool
-place_of bytes x = found bytes x (verdict bytes)
+abbrev pub place_for : List ℕ → List ℕ → Result ℕ NoPlace
+place_for bytes x = found bytes x (verdict bytes)
+
+abbrev pub no_place_line : NoPlace → List ℕ
+no_place_line (Refused why) = sentence why
+no_place_line NoOrder = no_order
+no_place_line NotInList = codes "no such name in the list\n"
+
+abbrev pub place_told : List ℕ → Result ℕ NoPlace → List ℕ
+place_told x (Ok k) = place_line k x
+place_told x (Err why) = no_place_line why

@@ -6,4 +6,4 @@ mod places;
 mod refused;
 mod report;
 
-pub use report::{put_place, put_report};
+pub use report::{NoPlace, put_place, put_report};

@@ -1,68 +1,69 @@
 // The lines before the places: how many there were, who opened, the list's hash, the bits.
-ghost use Rattle.std.specs.Prelude.{◌≡◌, ◌*◌};
-ghost use Rattle.output.specs.Output.{put};
+ghost use Rattle.std.specs.Prelude.{◌*◌, ◌≡◌};
+ghost use Rattle.output.specs.Writes.{Writes};
 ghost use Rattle.protocol.specs.Layout.{bits_length};
 ghost use Rattle.report_text.specs.Report.{bits_line, bits_words, counts_line, hash_line, party_line, party_lines};
 
-use output::{put, put_decimal, put_hex};
+use output::Output;
 use protocol::{bits_length, has_opened, list_hash};
 
-pub(crate) fn put_counts(out: &mut [u8], at: usize, names: u16, parties: u8, opened: u8) -> usize
-    ensures { (out.new, result) ≡ put (out.old, at) (counts_line names parties opened) }
+pub(crate) fn put_counts(out: &mut Output, names: u16, parties: u8, opened: u8)
+    ensures { Writes out.old out.new (counts_line names parties opened) }
 {
-    let names_end = put_decimal(out, at, names as usize);
-    let parties_at = put(out, names_end, b" names, ");
-    let parties_end = put_decimal(out, parties_at, parties as usize);
-    let opened_at = put(out, parties_end, b" parties, ");
-    let opened_end = put_decimal(out, opened_at, opened as usize);
-    put(out, opened_end, b" opened\n")
+    out.put_decimal(names as usize);
+    out.put(b" names, ");
+    out.put_decimal(parties as usize);
+    out.put(b" parties, ");
+    out.put_decimal(opened as usize);
+    out.put(b" opened\n");
 }
 
-fn put_party(out: &mut [u8], at: usize, protocol: &[u8], party: u8) -> usize
-    ensures { (out.new, result) ≡ put (out.old, at) (party_line protocol.now party) }
+fn put_party(out: &mut Output, protocol: &[u8], party: u8)
+    ensures { Writes out.old out.new (party_line protocol.now party) }
 {
-    let party_at = put(out, at, b"party ");
-    let party_end = put_decimal(out, party_at, party as usize);
+    out.put(b"party ");
+    out.put_decimal(party as usize);
     if has_opened(protocol, party) {
-        return put(out, party_end, b" opened\n");
+        out.put(b" opened\n");
+    } else {
+        out.put(b" left out\n");
     }
-    put(out, party_end, b" left out\n")
 }
 
-pub(crate) fn put_parties(out: &mut [u8], at: usize, protocol: &[u8], parties: u8) -> usize
-    ensures { (out.new, result) ≡ put (out.old, at) (party_lines protocol.now parties) }
+pub(crate) fn put_parties(out: &mut Output, protocol: &[u8], parties: u8)
+    ensures { Writes out.old out.new (party_lines protocol.now parties) }
 {
-    let mut end = at;
     for party in 0..parties {
-        end = put_party(out, end, protocol, party);
+        put_party(out, protocol, party);
     }
-    end
 }
 
-pub(crate) fn put_hash(out: &mut [u8], at: usize, protocol: &[u8]) -> usize
-    ensures { (out.new, result) ≡ put (out.old, at) (hash_line protocol.now) }
+pub(crate) fn put_hash(out: &mut Output, protocol: &[u8])
+    ensures { Writes out.old out.new (hash_line protocol.now) }
 {
-    let hash_at = put(out, at, b"list hash ");
-    let hash_end = put_hex(out, hash_at, &list_hash(protocol));
-    put(out, hash_end, b"\n")
+    out.put(b"list hash ");
+    out.put_hex(&list_hash(protocol));
+    out.put(b"\n");
 }
 
-fn put_used(out: &mut [u8], at: usize, used: Option<usize>) -> usize
-    ensures { (out.new, result) ≡ put (out.old, at) (bits_words used) }
+fn put_used(out: &mut Output, used: Option<usize>)
+    ensures { Writes out.old out.new (bits_words used) }
 {
-    let Some(used) = used else {
-        return put(out, at, b"bits ran out, of ");
-    };
-    let used_at = put(out, at, b"bits used ");
-    let used_end = put_decimal(out, used_at, used);
-    put(out, used_end, b" of ")
+    match used {
+        Some(used) => {
+            out.put(b"bits used ");
+            out.put_decimal(used);
+            out.put(b" of ");
+        }
+        None => out.put(b"bits ran out, of "),
+    }
 }
 
 // How many bits were used for the order, if there is one, of how many.
-pub(crate) fn put_bits(out: &mut [u8], at: usize, protocol: &[u8], used: Option<usize>) -> usize
-    ensures { (out.new, result) ≡ put (out.old, at) (bits_line used (8 * bits_length protocol.now)) }
+pub(crate) fn put_bits(out: &mut Output, protocol: &[u8], used: Option<usize>)
+    ensures { Writes out.old out.new (bits_line used (8 * bits_length protocol.now)) }
 {
-    let all_at = put_used(out, at, used);
-    let all_end = put_decimal(out, all_at, 8 * bits_length(protocol) as usize);
-    put(out, all_end, b"\n")
+    put_used(out, used);
+    out.put_decimal(8 * bits_length(protocol) as usize);
+    out.put(b"\n");
 }

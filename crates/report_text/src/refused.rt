@@ -1,50 +1,33 @@
 // A refusal in a sentence.
 ghost use Rattle.std.specs.Prelude.{◌≡◌};
-ghost use Rattle.output.specs.Output.{put};
+ghost use Rattle.output.specs.Writes.{Writes};
 ghost use Rattle.report_text.specs.Report.{reason, sentence};
 
-use output::{put, put_decimal};
+use output::Output;
 use refusals::Refusal;
 
-fn put_reason(out: &mut [u8], at: usize, number: u8) -> usize
-    ensures { (out.new, result) ≡ put (out.old, at) (reason number) }
+// The rules of a protocol refuse for four reasons.
+fn reason(why: Refusal) -> &'static [u8]
+    ensures { result.now ≡ reason why }
 {
-    if number == 11 {
-        return put(
-            out,
-            at,
-            b"the protocol ends too early, or goes on behind its end",
-        );
-    }
-    if number == 12 {
-        return put(
-            out,
-            at,
+    match why {
+        Refusal::ProtocolLength(_) => b"the protocol ends too early, or goes on behind its end",
+        Refusal::OutOfRange(_) =>
             b"a count, a length, a name or an opened byte is out of range, or a name is not above the one before",
-        );
-    }
-    if number == 13 {
-        return put(
-            out,
-            at,
+        Refusal::BadOpening(_) =>
             b"the opening of this party does not give its seal, or, at 255, no party opened",
-        );
+        _ => b"the order is not the one that is drawn from the openings",
     }
-    put(
-        out,
-        at,
-        b"the order is not the one that is drawn from the openings",
-    )
 }
 
-pub(crate) fn put_sentence(out: &mut [u8], at: usize, why: Refusal) -> usize
-    ensures { (out.new, result) ≡ put (out.old, at) (sentence why) }
+pub(crate) fn put_sentence(out: &mut Output, why: Refusal)
+    ensures { Writes out.old out.new (sentence why) }
 {
-    let number_at = put(out, at, b"refused ");
-    let number_end = put_decimal(out, number_at, why.number() as usize);
-    let place_at = put(out, number_end, b" at ");
-    let place_end = put_decimal(out, place_at, why.place());
-    let reason_at = put(out, place_end, b": ");
-    let reason_end = put_reason(out, reason_at, why.number());
-    put(out, reason_end, b"\n")
+    out.put(b"refused ");
+    out.put_decimal(why.number() as usize);
+    out.put(b" at ");
+    out.put_decimal(why.place());
+    out.put(b": ");
+    out.put(reason(why));
+    out.put(b"\n");
 }

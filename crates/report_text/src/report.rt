@@ -1,37 +1,46 @@
 // The whole report, and the place of one member alone.
-ghost use Rattle.std.specs.Prelude.{◌≡◌, IfOk, vec_items};
-ghost use Rattle.output.specs.Output.{put};
-ghost use Rattle.protocol.specs.Check.{verdict};
-ghost use Rattle.protocol.specs.Texts.{is_accepted};
-ghost use Rattle.report_text.specs.Report.{order_lines, place_of, report};
+ghost use Rattle.std.specs.Prelude.{IfOk, vec_items, ◌≡◌};
 ghost use Rattle.std.specs.Option.{option_map};
+ghost use Rattle.output.specs.Writes.{Writes};
+ghost use Rattle.protocol.specs.Check.{verdict};
+ghost use Rattle.report_text.specs.Report.{accepted_or_refused, no_place_line, order_lines, place_for, place_told, report};
 
 use crate::parties::{put_bits, put_counts, put_hash, put_parties};
-use crate::places::{put_found, put_places};
+use crate::places::{find, put_line, put_places};
 use crate::refused::put_sentence;
-use output::put;
+use output::Output;
 use protocol::{Checked, bits_used, check};
+use refusals::Refusal;
 use std::alloc::{AllocError, Global};
 
-fn put_order(out: &mut [u8], at: usize, protocol: &[u8], order: &Option<Vec<u16>>) -> usize
-    ensures { (out.new, result) ≡ put (out.old, at) (order_lines protocol.now (option_map vec_items order.now)) }
+// Why a name has no place.
+#[derive(Clone, Copy, Debug, PartialEq, Eq)]
+pub enum NoPlace {
+    // the protocol is refused
+    Refused(Refusal),
+    // the bits ran out
+    NoOrder,
+    // the list has no such name
+    NotInList,
+}
+
+fn put_order(out: &mut Output, protocol: &[u8], order: &Option<Vec<u16>>)
+    ensures { Writes out.old out.new (order_lines protocol.now (option_map vec_items order.now)) }
 {
     match order {
-        Some(order) => put_places(out, at, protocol, order.as_slice()),
-        None => put(out, at, b"no order\n"),
+        Some(order) => put_places(out, protocol, order.as_slice()),
+        None => out.put(b"no order\n"),
     }
 }
 
-// Writes the report of a protocol, or why it is refused. It answers with the place behind it, and whether the protocol is
-// accepted. Where memory runs out, nothing is promised of what stands in `out`.
+// Writes the report of a protocol, or why it is refused. Where memory runs out, nothing is promised of what stands in `out`.
 pub fn put_report(
     heap: Global,
-    out: &mut [u8],
-    at: usize,
+    out: &mut Output,
     protocol: &[u8],
-) -> Result<(usize, bool), AllocError>
-    ensures text { IfOk result (λ r. (out.new, r.0) ≡ put (out.old, at) (report protocol.now)) }
-    ensures accepted { IfOk result (λ r. r.1 ≡ is_accepted (verdict protocol.now)) }
+) -> Result<Result<(), Refusal>, AllocError>
+    ensures text { IfOk result (λ _. Writes out.old out.new (report protocol.now)) }
+    ensures accepted { IfOk result (λ r. r ≡ accepted_or_refused (verdict protocol.now)) }
 {
     match check(heap, protocol)? {
         Checked::Accepted {
@@ -41,34 +50,63 @@ pub fn put_report(
             order,
         } => {
             let used = bits_used(heap, protocol)?;
-            let counts_end = put_counts(out, at, names, parties, opened);
-            let parties_end = put_parties(out, counts_end, protocol, parties);
-            let hash_end = put_hash(out, parties_end, protocol);
-            let bits_end = put_bits(out, hash_end, protocol, used);
-            Ok((put_order(out, bits_end, protocol, &order), true))
+            put_counts(out, names, parties, opened);
+            put_parties(out, protocol, parties);
+            put_hash(out, protocol);
+            put_bits(out, protocol, used);
+            put_order(out, protocol, &order);
+            Ok(Ok(()))
         }
-        Checked::Refused(why) => Ok((put_sentence(out, at, why), false)),
+        Checked::Refused(why) => {
+            put_sentence(out, why);
+            Ok(Err(why))
+        }
     }
 }
 
-// Writes the place of one name alone, or why there is none. It answers with the place behind it, and whether the name has
-// one. Where memory runs out, nothing is promised of what stands in `out`.
-pub fn put_place(
+// The place of a name, counted from 1.
+fn place_for(
     heap: Global,
-    out: &mut [u8],
-    at: usize,
     protocol: &[u8],
     name: &[u8],
-) -> Result<(usize, bool), AllocError>
-    ensures text { IfOk result (λ r. (out.new, r.0) ≡ put (out.old, at) (place_of protocol.now name.now).0) }
-    ensures found { IfOk result (λ r. r.1 ≡ (place_of protocol.now name.now).1) }
+) -> Result<Result<usize, NoPlace>, AllocError>
+    ensures { IfOk result (λ r. r ≡ place_for protocol.now name.now) }
 {
     match check(heap, protocol)? {
         Checked::Accepted {
             order: Some(order),
             ..
-        } => Ok(put_found(out, at, protocol, order.as_slice(), name)),
-        Checked::Accepted { order: None, .. } => Ok((put(out, at, b"no order\n"), false)),
-        Checked::Refused(why) => Ok((put_sentence(out, at, why), false)),
+        } => Ok(find(protocol, order.as_slice(), name).ok_or(NoPlace::NotInList)),
+        Checked::Accepted { order: None, .. } => Ok(Err(NoPlace::NoOrder)),
+        Checked::Refused(why) => Ok(Err(NoPlace::Refused(why))),
     }
+}
+
+fn put_no_place(out: &mut Output, why: NoPlace)
+    ensures { Writes out.old out.new (no_place_line why) }
+{
+    match why {
+        NoPlace::Refused(why) => put_sentence(out, why),
+        NoPlace::NoOrder => out.put(b"no order\n"),
+        NoPlace::NotInList => out.put(b"no such name in the list\n"),
+    }
+}
+
+// Writes the place of one name alone, or why there is none, and answers the same. Where memory runs out, nothing is
+// promised of what stands in `out`.
+pub fn put_place(
+    heap: Global,
+    out: &mut Output,
+    protocol: &[u8],
+    name: &[u8],
+) -> Result<Result<usize, NoPlace>, AllocError>
+    ensures text { IfOk result (λ r. Writes out.old out.new (place_told name.now r)) }
+    ensures place { IfOk result (λ r. r ≡ place_for protocol.now name.now) }
+{
+    let found = place_for(heap, protocol, name)?;
+    match found {
+        Ok(place) => put_line(out, place, name),
+        Err(why) => put_no_place(out, why),
+    }
+    Ok(found)
 }
