@@ -1,14 +1,15 @@
 -- A taken entry: the name stands at its place among the others, and memory stays sound. Assumes nothing.
-use Rattle.std.proofs.Common.{◌≡◌, ℕ, ◌+◌, ◌*◌, ◌<◌, ◌≤◌, List, [], map, length, get_or, take, Some, sym, ap, ◌∙◌, subst, ⊎_elim, arith}
+use Rattle.std.proofs.lemmas.Grind.{common_steps}
+use Rattle.std.proofs.Common.{◌≡◌, ℕ, ◌+◌, ◌*◌, ◌<◌, ◌≤◌, List, [], map, get_or, take, Some, sym, ap, ◌∙◌, subst, ⊎_elim, arith}
 use Rattle.std.specs.List.{insert}
-use Rattle.std.proofs.lemmas.Bool.{cases_lt, cases_order}
+use Rattle.std.proofs.lemmas.Bool.{cases_lt}
 use Rattle.entries.specs.Rows.{name_in, slot_size, longest_name}
 use Rattle.entries.specs.Entry.{Entered}
 use Rattle.listing.specs.Listing.{Listing, names, Sorted, Sound}
 use Rattle.listing.proofs.Orders.{row_less, less_apart}
 use Rattle.listing.proofs.SortedRows.{sorted_inserted}
 use Rattle.listing.proofs.Search.{Found, place_found}
-use Rattle.listing.proofs.Slots.{written, byte_new, name_new, byte_kept, name_kept, length_written}
+use Rattle.listing.proofs.Slots.{written, name_new, name_kept, length_written}
 use Rattle.listing.proofs.Numbers.{all_front, take_numbers, length_numbers, numbers_in_use}
 use Rattle.listing.proofs.Outcomes.{Taken, put, left}
 use Rattle.listing.proofs.Memory.{length_names}
@@ -41,16 +42,7 @@ module _ (s : Listing) (x : List ℕ) (h : Sound s) (e : Entered) (t : Taken s x
       ∙ (λ i. insert (same i) t.at (name_new s.slots x s.count t.slots_left i)))
 
   lengths_put : (i : ℕ) → i < s.count + 1 → (0 < get_or (written s.slots x s.count) (slot_size * i) 0) × (get_or (written s.slots x s.count) (slot_size * i) 0 ≤ longest_name)
-  lengths_put i l =
-      ⊎_elim (λ (e : i ≡ s.count).
-      let b : get_or (written s.slots x s.count) (slot_size * i) 0 ≡ length x =
-      ap (λ (k : ℕ). get_or (written s.slots x s.count) (slot_size * k) 0) e ∙ byte_new s.slots x s.count t.slots_left in
-      (omega (arith, t.some), omega (arith, t.short)))
-      (⊎_elim (λ (c : i < s.count).
-      let b : get_or (written s.slots x s.count) (slot_size * i) 0 ≡ get_or s.slots (slot_size * i) 0 = byte_kept s.slots x s.count t.slots_left i c in
-      (omega (arith, (h.lengths i c).0), omega (arith, (h.lengths i c).1)))
-      (λ (c : s.count < i). absurd (omega arith)))
-      (cases_order i s.count)
+  lengths_put i l = grind (arith, common_steps)
 
   pub sound_put : Sound (left s x (put s x t.at))
   sound_put = record {

@@ -1,4 +1,5 @@
 -- The laws of one entry. Assumes nothing.
+use Rattle.std.proofs.lemmas.Grind.{common_steps}
 use Rattle.std.proofs.Common.{◌≡◌, ℕ, ◌+◌, List, Some, None, Ok, Err, Option, sym, refl, ap, ◌∙◌, subst, ⊎_elim, arith}
 use Rattle.std.specs.List.{insert}
 use Rattle.refusals.specs.declared.Refusal.{Refusal}
@@ -13,16 +14,10 @@ use Rattle.listing.proofs.Memory.{length_names}
 
 -- the outcome by the answer
 pub taken_from : (s : Listing) (x : List ℕ) (n : ℕ) → (result s x).answer ≡ Ok n → Taken s x (result s x)
-taken_from s x n a =
-    ⊎_elim (λ (t : Taken s x (result s x)). t)
-    (λ (r : Refused s x (result s x)). let z : ◌≡◌ {A = ℕ} 0 1 = cc (sym a ∙ ap (λ (e : Entered). e.answer) r.1) in absurd (omega arith))
-    (entry_cases s x)
+taken_from s x n a = grind (arith, common_steps)
 
 pub refused_from : (s : Listing) (x : List ℕ) (why : Refusal) → (result s x).answer ≡ Err why → Refused s x (result s x)
-refused_from s x why a =
-    ⊎_elim (λ (t : Taken s x (result s x)). let z : ◌≡◌ {A = ℕ} 0 1 = cc (sym a ∙ ap (λ (e : Entered). e.answer) t.is) in absurd (omega arith))
-    (λ (r : Refused s x (result s x)). r)
-    (entry_cases s x)
+refused_from s x why a = grind (arith, common_steps)
 
 pub names_taken : (s : Listing) (x : List ℕ) → Sound s → (t : Taken s x (result s x)) → names (after_entry s x) ≡ insert (names s) t.at x
 names_taken s x h t = ap names (left_taken s x t) ∙ names_put s x h (result s x) t

@@ -1,6 +1,8 @@
 -- What one entry leaves in the list: the names before it, the new one where there is room, and the room for the next. Assumes nothing.
+use Rattle.std.proofs.lemmas.Grind.{common_steps}
 use Rattle.std.proofs.Common.{◌≡◌, ℕ, suc, ◌<◌, ◌≤◌, List, [], ◌∷◌, length, Some, None, Option, sym, refl, ap, ◌∙◌, subst, ⊎_elim, arith}
 use Rattle.std.specs.List.{insert, ContainsAt as Has}
+use Rattle.std.proofs.lemmas.List.Sorted.{IsPermutation-insert}
 use Rattle.std.proofs.ByRecursion.{has_get_or, has_shuffled}
 use Rattle.entries.specs.Rows.{longest_name}
 use Rattle.entries.specs.Place.{place}
@@ -9,11 +11,7 @@ use Rattle.listing.specs.Listing.{Listing, names, after_entry, Sound}
 use Rattle.listing.specs.Laws.{RoomFor}
 use Rattle.listing.proofs.Elements.{has_head, has_tail}
 use Rattle.listing.proofs.Search.{Found, place_found}
-use Rattle.listing.proofs.Slots.{length_written}
-use Rattle.listing.proofs.Numbers.{length_numbers}
-use Rattle.listing.proofs.Shuffles.{shuffled_inserted}
-use Rattle.listing.proofs.Outcomes.{Taken, Refused, result, put, entry_cases, taken_where, left_taken, left_refused}
-use Rattle.listing.proofs.Entering.{place_low}
+use Rattle.listing.proofs.Outcomes.{Taken, Refused, result, put, entry_cases, taken_where, left_refused}
 use Rattle.listing.proofs.Entry.{names_taken}
 
 module _ (s : Listing) (x : List ℕ) (h : Sound s) where
@@ -21,7 +19,7 @@ module _ (s : Listing) (x : List ℕ) (h : Sound s) where
   pub still_held : (z : List ℕ) → Has (names s) z → Has (names (after_entry s x)) z
   still_held z k =
       ⊎_elim (λ (t : Taken s x (result s x)).
-      subst (λ (ns : List (List ℕ)). Has ns z) (sym (names_taken s x h t)) (has_shuffled (x ∷ names s) (insert (names s) t.at x) z (shuffled_inserted x [] (names s) t.at) (has_tail x (names s) z k)))
+      subst (λ (ns : List (List ℕ)). Has ns z) (sym (names_taken s x h t)) (has_shuffled (x ∷ names s) (insert (names s) t.at x) z (IsPermutation-insert (names s) t.at x) (has_tail x (names s) z k)))
       (λ (r : Refused s x (result s x)). subst (λ (u : Listing). Has (names u) z) (sym (left_refused s x r)) k)
       (entry_cases s x)
 
@@ -39,16 +37,10 @@ module _ (s : Listing) (x : List ℕ) (h : Sound s) where
   pub now_held : (n : ℕ) → RoomFor s (suc n) → 0 < length x → length x ≤ longest_name → Has (names (after_entry s x)) x
   now_held n m a l =
       ⊎_elim (λ (t : Taken s x (result s x)).
-      subst (λ (ns : List (List ℕ)). Has ns x) (sym (names_taken s x h t)) (has_shuffled (x ∷ names s) (insert (names s) t.at x) x (shuffled_inserted x [] (names s) t.at) (has_head x (names s))))
+      subst (λ (ns : List (List ℕ)). Has ns x) (sym (names_taken s x h t)) (has_shuffled (x ∷ names s) (insert (names s) t.at x) x (IsPermutation-insert (names s) t.at x) (has_head x (names s))))
       (λ (r : Refused s x (result s x)). still_held x (refused_held n m a l r))
       (entry_cases s x)
 
   -- an entry takes the room of one name at most
   pub room_left : (n : ℕ) → RoomFor s (suc n) → RoomFor (after_entry s x) n
-  room_left n m =
-      ⊎_elim (λ (t : Taken s x (result s x)).
-      let a = length_written s.slots x s.count t.slots_left t.short in
-      let b = length_numbers s.index s.count t.at t.numbers_left (place_low s x h (result s x) t) in
-      subst (λ (u : Listing). RoomFor u n) (sym (left_taken s x t)) (omega (arith, m.0), omega (arith, m.1), omega (arith, m.2)))
-      (λ (r : Refused s x (result s x)). subst (λ (u : Listing). RoomFor u n) (sym (left_refused s x r)) (omega (arith, m.0), omega (arith, m.1), omega (arith, m.2)))
-      (entry_cases s x)
+  room_left n m = grind (arith, common_steps)

@@ -10,7 +10,6 @@ pub mod Memory
 pub mod Maps
 pub mod Entering
 pub mod Entry
-pub mod Shuffles
 pub mod Runs
 pub mod Kept
 pub mod Held

@@ -1,6 +1,6 @@
 -- What sound memory holds: as many names as counted, each of 1 to 64 bytes; and memory before the first entry is sound. Assumes nothing.
-use Rattle.std.proofs.Common.{◌≡◌, ℕ, ◌+◌, ◌*◌, ◌<◌, ◌≤◌, List, [], length, get_or, take, drop, ap, ◌∙◌, arith}
-use Rattle.std.proofs.lemmas.List.{get_or-map, get_or-take, length-map, length-drop, length-take-le}
+use Rattle.std.proofs.lemmas.Grind.{common_steps}
+use Rattle.std.proofs.Common.{◌≡◌, ℕ, ◌*◌, ◌<◌, ◌≤◌, List, [], length, get_or, ap, ◌∙◌, arith}
 use Rattle.entries.specs.Rows.{name_in, slot_size, longest_name}
 use Rattle.listing.specs.Listing.{Listing, names, no_entries, Sound}
 use Rattle.listing.proofs.SortedRows.{sorted_none}
@@ -15,19 +15,15 @@ sound_none slots index = record {
 }
 
 pub length_names : (s : Listing) → Sound s → length (names s) ≡ s.count
-length_names s h = length-map (take s.count s.index) (name_in s.slots) ∙ length-take-le s.count s.index h.numbers_room
+length_names s h = grind (arith, common_steps)
 
 -- the name at a place of the list, by its slot
 pub name_at : (s : Listing) → Sound s → (k : ℕ) → k < s.count → get_or (names s) k [] ≡ name_in s.slots (get_or s.index k 0)
-name_at s h k l =
-    get_or-map (name_in s.slots) (take s.count s.index) k 0 [] (omega (arith, length-take-le s.count s.index h.numbers_room))
-    ∙ ap (name_in s.slots) (get_or-take s.count s.index k 0 l)
+name_at s h k l = grind (arith, common_steps)
 
 -- a name in a slot in use is as long as the slot's first byte says
 pub slot_length : (s : Listing) → Sound s → (i : ℕ) → i < s.count → length (name_in s.slots i) ≡ get_or s.slots (slot_size * i) 0
-slot_length s h i l =
-    let b : get_or s.slots (slot_size * i) 0 ≤ longest_name = (h.lengths i l).1 in
-    length-take-le (get_or s.slots (slot_size * i) 0) (drop (slot_size * i + 1) s.slots) (omega (arith, h.slots_room, length-drop (slot_size * i + 1) s.slots))
+slot_length s h i l = grind (arith, common_steps)
 
 pub name_lengths : (s : Listing) → Sound s → (k : ℕ) → k < s.count → (0 < length (get_or (names s) k [])) × (length (get_or (names s) k []) ≤ longest_name)
 name_lengths s h k l =

@@ -1,6 +1,6 @@
 -- Rows in order: equal in order is equal, and two rows stand one way round only. Assumes nothing.
 use Rattle.std.proofs.Common.{◌≡◌, ℕ, List, Ordering, Less, Equal, Greater, ap, ◌∙◌, arith}
-use Rattle.std.proofs.lemmas.Cmp.{nat_list_cmp_total}
+use Rattle.std.proofs.lemmas.Cmp.{nat_list_cmp_total, tied_itself}
 use Rattle.std.specs.Ordering.{ordering_reverse}
 use Rattle.std.proofs.lemmas.Map.Lookups.{exact_bytes}
 use Rattle.entries.specs.Rows.{row_order}
@@ -22,10 +22,7 @@ row_less x y h = row_flip x y Greater h
 
 -- no row comes before itself
 pub row_irrefl : (x : List ℕ) → row_order x x ≡ Less → ⊥
-row_irrefl x h =
-    let g : row_order x x ≡ Greater = row_greater x x h in
-    let z : ◌≡◌ {A = ℕ} 0 1 = cc in
-    omega arith
+row_irrefl x h = grind (arith, tied_itself nat_list_cmp_total x)
 
 -- a row that comes before another differs from it
 pub less_apart : (x y : List ℕ) → row_order x y ≡ Less → x ≡ y → ⊥

@@ -1,6 +1,7 @@
 -- An entry is refused and changes nothing, or it is taken and put in at the place that was found. Assumes nothing.
+use Rattle.std.proofs.lemmas.Grind.{common_steps}
 use Rattle.std.proofs.Common.{◌≡◌, ℕ, ◌+◌, ◌*◌, ◌<◌, ◌≤◌, Bool, true, false, cond, ◌||◌, eqb, ltb, leb, ◌⊎◌, List, length, Some, None, Ok, Err, Option, refl, ap, inl, inr, arith}
-use Rattle.std.proofs.lemmas.Bool.{or_parts, or_from, ltb-false, leb-false, eqb-false, ne_eqb, le-ltb, lt-leb}
+use Rattle.std.proofs.lemmas.Bool.{or_parts, ltb-false, leb-false, eqb-false}
 use Rattle.refusals.specs.declared.Lent.TheVariants.{List as TheList}
 use Rattle.refusals.specs.declared.Refusal.{Refusal}
 use Rattle.refusals.specs.declared.Refusal.TheVariants.{NameLength, NameTaken, NoRoom}
@@ -90,14 +91,7 @@ module _ (s : Listing) (x : List ℕ) where
   -- an entry is taken where nothing speaks against it
   pub taken_where : (at : ℕ) → 0 < length x → length x ≤ longest_name → s.count < most_names → place (names s) x ≡ Some at
       → slot_size * s.count + slot_size ≤ length s.slots → s.count < length s.index → result ≡ put at
-  taken_where at a l c p room number =
-      let t : bad_length ≡ false =
-      or_from (eqb (length x) 0) (ltb longest_name (length x)) (ne_eqb (length x) 0 (λ e. omega arith)) (le-ltb longest_name (length x) l) in
-      let u : leb most_names s.count ≡ false = lt-leb most_names s.count c in
-      let v : no_room ≡ false =
-      or_from (ltb (length s.slots) (slot_size * s.count + slot_size)) (leb (length s.index) s.count)
-      (le-ltb (length s.slots) (slot_size * s.count + slot_size) room) (lt-leb (length s.index) s.count number) in
-      simp (t, u, p, v)
+  taken_where at a l c p room number = grind (arith, common_steps)
 
   -- the list after it
   abbrev pub left : Entered → Listing

@@ -1,12 +1,12 @@
 -- Entries one after another keep memory sound, and the list holds those that were taken. Assumes nothing.
 use Rattle.std.proofs.Common.{ℕ, List, [], ◌∷◌, ◌++◌, sym, subst, ⊎_elim, append-nil}
+use Rattle.std.specs.List.{insert}
 use Rattle.std.specs.List.Sorted.{IsPermutation}
-use Rattle.std.proofs.lemmas.List.Sorted.{IsPermutation-refl, IsPermutation-sym, IsPermutation-trans}
+use Rattle.std.proofs.lemmas.List.Sorted.{IsPermutation-refl, IsPermutation-sym, IsPermutation-trans, IsPermutation-middle, IsPermutation-insert, IsPermutation-append_right}
 use Rattle.entries.specs.Entry.{Entered}
 use Rattle.listing.specs.Listing.{Listing, names, after_entry, after_entries, taken, if_taken, no_entries, Sorted, Sound}
 use Rattle.listing.specs.Laws.{OneList}
 use Rattle.listing.proofs.SameRows.{sorted_shuffled}
-use Rattle.listing.proofs.Shuffles.{shuffled_inserted}
 use Rattle.listing.proofs.Outcomes.{Taken, Refused, result, entry_cases, left_refused}
 use Rattle.listing.proofs.Memory.{sound_none}
 use Rattle.listing.proofs.Entry.{entry_keeps, names_taken}
@@ -15,6 +15,11 @@ pub entries_keep : (s : Listing) (xs : List (List ℕ)) → Sound s → Sound (a
 unfolding after_entries
 entries_keep s [] h = h
 entries_keep s (x ∷ xs) h = entries_keep (after_entry s x) xs (entry_keeps s x h)
+
+-- an element put in among others, and put in front of all
+shuffled_inserted : {X : Type 0} (x : X) (xs ys : List X) (at : ℕ) → IsPermutation (x ∷ (xs ++ ys)) (xs ++ insert ys at x)
+shuffled_inserted x xs ys at =
+    IsPermutation-trans _ (xs ++ x ∷ ys) _ (IsPermutation-sym _ _ (IsPermutation-middle xs x ys)) (IsPermutation-append_right xs (x ∷ ys) _ (IsPermutation-insert ys at x))
 
 -- one entry moves the name from those that are to come into the list
 one_more : (s : Listing) (x : List ℕ) (ts : List (List ℕ)) → Sound s → IsPermutation (if_taken (result s x).answer x ts ++ names s) (ts ++ names (after_entry s x))

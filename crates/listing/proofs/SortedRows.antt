@@ -1,29 +1,18 @@
--- Sorted rows: any two stand in their order, so that all differ; parts of sorted rows; a row put in at its place. Assumes nothing.
-use Rattle.std.proofs.Common.{◌≡◌, ℕ, zero, suc, ◌+◌, ◌-◌, ◌<◌, ◌≤◌, List, [], ◌∷◌, length, get_or, Less, Greater, ap, ◌∙◌, ⊎_elim, arith}
+-- Sorted rows: any two stand in their order; parts of sorted rows; a row put in at its place. Assumes nothing.
+use Rattle.std.proofs.lemmas.Grind.{common_steps}
+use Rattle.std.proofs.Common.{◌≡◌, ℕ, suc, ◌+◌, ◌-◌, ◌<◌, ◌≤◌, List, [], ◌∷◌, length, get_or, Less, Greater, ap, ◌∙◌, ⊎_elim, arith}
 use Rattle.std.specs.List.{insert}
-use Rattle.std.proofs.lemmas.List.Edits.{length-insert, get_or-insert_below, get_or-insert_at, get_or-insert_above}
+use Rattle.std.proofs.lemmas.List.Edits.{length-insert}
+use Rattle.std.proofs.lemmas.Cmp.{nat_list_cmp_total}
+use Rattle.std.proofs.lemmas.Map.Keys.{Less-from_sorted, sorted_from_all_adjacent}
 use Rattle.std.proofs.lemmas.Bool.{cases_lt, cases_order}
 use Rattle.entries.specs.Rows.{row_order}
 use Rattle.listing.specs.Listing.{Sorted}
-use Rattle.listing.proofs.Orders.{row_trans, row_less, less_apart}
-
--- a row and the one that stands m + 1 places further
-onward : (ns : List (List ℕ)) → Sorted ns → (i m : ℕ) → i + 1 + m < length ns → row_order (get_or ns i []) (get_or ns (i + 1 + m) []) ≡ Less
-onward ns h i zero l = let z : i + 1 + 0 ≡ i + 1 = omega arith in ap (λ (j : ℕ). row_order (get_or ns i []) (get_or ns j [])) z ∙ h i (omega arith)
-onward ns h i (suc m) l =
-    let z : i + 1 + suc m ≡ i + 1 + m + 1 = omega arith in
-    ap (λ (j : ℕ). row_order (get_or ns i []) (get_or ns j [])) z
-    ∙ row_trans (get_or ns i []) (get_or ns (i + 1 + m) []) (get_or ns (i + 1 + m + 1) []) (onward ns h i m (omega arith)) (h (i + 1 + m) (omega arith))
+use Rattle.listing.proofs.Orders.{row_less}
 
 -- any two sorted rows stand in their order
 pub sorted_pairs : (ns : List (List ℕ)) → Sorted ns → (i j : ℕ) → i < j → j < length ns → row_order (get_or ns i []) (get_or ns j []) ≡ Less
-sorted_pairs ns h i j l m =
-    let z : j ≡ i + 1 + (j - (i + 1)) = omega arith in
-    ap (λ (k : ℕ). row_order (get_or ns i []) (get_or ns k [])) z ∙ onward ns h i (j - (i + 1)) (omega arith)
-
--- so all of them differ
-pub sorted_apart : (ns : List (List ℕ)) → Sorted ns → (i j : ℕ) → i < j → j < length ns → get_or ns i [] ≡ get_or ns j [] → ⊥
-sorted_apart ns h i j l m e = less_apart (get_or ns i []) (get_or ns j []) (sorted_pairs ns h i j l m) e
+sorted_pairs ns h i j l m = Less-from_sorted row_order ns i j [] (sorted_from_all_adjacent nat_list_cmp_total ns [] h) l m
 
 pub sorted_none : Sorted []
 sorted_none i l = absurd (omega arith)
@@ -36,15 +25,13 @@ sorted_tail x xs h i l =
 -- a row put in behind all lesser ones and before all greater ones
 module _ (ns : List (List ℕ)) (x : List ℕ) (at : ℕ) (a : at ≤ length ns) where
   at_place : (k : ℕ) → k ≡ at → get_or (insert ns at x) k [] ≡ x
-  at_place k e = ap (λ (j : ℕ). get_or (insert ns at x) j []) e ∙ get_or-insert_at ns at x [] a
+  at_place k e = grind (arith, common_steps)
 
   before : (k : ℕ) → k < at → get_or (insert ns at x) k [] ≡ get_or ns k []
-  before k l = get_or-insert_below ns at x [] k l a
+  before k l = grind (arith, common_steps)
 
   behind : (k : ℕ) → at < k → get_or (insert ns at x) k [] ≡ get_or ns (k - 1) []
-  behind k l =
-      let z : k ≡ k - 1 + 1 = omega arith in
-      ap (λ (j : ℕ). get_or (insert ns at x) j []) z ∙ get_or-insert_above ns at x [] (k - 1) (omega arith) a
+  behind k l = grind (arith, common_steps)
 
   pub sorted_inserted : Sorted ns → ((k : ℕ) → k < at → row_order (get_or ns k []) x ≡ Less) → ((k : ℕ) → at ≤ k → k < length ns → row_order (get_or ns k []) x ≡ Greater) → Sorted (insert ns at x)
   sorted_inserted h low high i l =
