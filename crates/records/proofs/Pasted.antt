@@ -1,12 +1,9 @@
 -- A part of a list of which another part was written over: a part that does not meet it stays, and one within it is of what was written. Assumes nothing.
-use Rattle.std.proofs.Common.{◌≡◌, ℕ, ◌+◌, ◌-◌, ◌<◌, ◌≤◌, ◌⊎◌, List, ◌++◌, length, get_or, take, drop, sym, ap, ◌∙◌, ⊎_elim, add-zero, arith}
+use Rattle.std.proofs.lemmas.Grind.{common_steps}
+use Rattle.std.proofs.Common.{◌≡◌, ℕ, ◌+◌, ◌-◌, ◌<◌, ◌≤◌, ◌⊎◌, List, ◌++◌, length, get_or, take, drop, sym, ap, ◌∙◌, ⊎_elim, arith}
 use lib.Seq.{paste}
-use Rattle.std.proofs.lemmas.List.{take-take, take-append-le, drop-take, drop-drop, drop_at, drop-append-le, get_or-take, get_or-drop, length-take-le, length-drop}
+use Rattle.std.proofs.lemmas.List.{take-take, take-append-le, drop-take, drop-drop, drop_at, drop-append-le, length-take-le, length-drop}
 use Rattle.std.proofs.lemmas.List.Edits.{paste_all, drop-paste}
-
--- an element is a part of one
-element : {X : Type 0} (xs : List X) (k : ℕ) (y : X) → get_or (take 1 (drop k xs)) 0 y ≡ get_or xs k y
-element xs k y = get_or-take 1 (drop k xs) 0 y (omega arith) ∙ (get_or-drop k xs 0 y ∙ ap (λ (j : ℕ). get_or xs j y) (add-zero k))
 
 module _ {X : Type 0} (d : List X) (at : ℕ) (s : List X) (m : ℕ) (whole : m ≡ length s) (fits : at + m ≤ length d) where
   pub part_before : (a n : ℕ) → a + n ≤ at → take n (drop a (paste d at s m)) ≡ take n (drop a d)
@@ -38,7 +35,7 @@ module _ {X : Type 0} (d : List X) (at : ℕ) (s : List X) (m : ℕ) (whole : m 
       ∙ take-append-le n (drop i s) (drop (at + m) d) within
 
   pub element_apart : (k : ℕ) (y : X) → (k + 1 ≤ at) ⊎ (at + m ≤ k) → get_or (paste d at s m) k y ≡ get_or d k y
-  element_apart k y h = sym (element (paste d at s m) k y) ∙ (ap (λ (z : List X). get_or z 0 y) (part_apart k 1 h) ∙ element d k y)
+  element_apart k y h = grind (arith, common_steps)
 
   pub element_inside : (k i : ℕ) (y : X) → k ≡ at + i → i < m → get_or (paste d at s m) k y ≡ get_or s i y
-  element_inside k i y e h = sym (element (paste d at s m) k y) ∙ (ap (λ (z : List X). get_or z 0 y) (part_inside k i 1 e (omega arith)) ∙ element s i y)
+  element_inside k i y e h = grind (arith, common_steps)

@@ -1,5 +1,6 @@
 -- The parties' records lie one behind the other, so what is written into one leaves the others as they are. Assumes nothing.
-use Rattle.std.proofs.Common.{◌≡◌, ℕ, ◌+◌, ◌*◌, ◌<◌, ◌≤◌, ltb, ◌⊎◌, List, length, ap, inl, inr, ⊎_elim, mul-le-mul_left, mul-one, mul-add, arith}
+use Rattle.std.proofs.lemmas.Grind.{common_steps}
+use Rattle.std.proofs.Common.{◌≡◌, ℕ, ◌+◌, ◌*◌, ◌<◌, ◌≤◌, ltb, ◌⊎◌, List, length, ap, inl, inr, ⊎_elim, arith}
 use lib.Seq.{paste}
 use Rattle.seals.specs.Records.{record_size}
 use Rattle.records.specs.Laws.{Same}
@@ -7,10 +8,10 @@ use Rattle.records.proofs.Pasted.{part_apart, element_apart}
 
 -- the next record begins where this one ends, and each later one there or behind
 pub next_place : (size k : ℕ) → size * (k + 1) ≡ size * k + size
-next_place size k = omega (arith, mul-add size k 1, mul-one size)
+next_place size k = grind (arith, common_steps)
 
 pub later_place : (size k party : ℕ) → k < party → size * k + size ≤ size * party
-later_place size k party h = let n : k + 1 ≤ party = omega arith in omega (arith, next_place size k, mul-le-mul_left size n)
+later_place size k party h = grind (arith, common_steps)
 
 -- a record that what is written does not meet
 pub same_apart : (d : List ℕ) (at : ℕ) (s : List ℕ) (m len k : ℕ) → m ≡ length s → at + m ≤ length d

@@ -1,13 +1,13 @@
 -- The rows that records give. Assumes nothing.
-use Rattle.std.proofs.Common.{◌≡◌, ℕ, zero, suc, ◌<◌, Bool, true, false, cond, List, [], ◌∷◌, ◌++◌, drop, refl, ap, ap₂, arith}
+use Rattle.std.proofs.lemmas.Grind.{common_steps}
+use Rattle.std.proofs.Common.{◌≡◌, ℕ, zero, suc, ◌<◌, true, false, List, [], ◌∷◌, ◌++◌, drop, refl, ap₂, arith}
 use Rattle.seals.specs.Records.{has_opened, opening_in}
 use Rattle.records.specs.Records.{row_of, opened_rows}
 use Rattle.records.specs.Laws.{Same}
 
 -- records that stay have the rows that they had
 pub same_row : (before after : List ℕ) (len k : ℕ) → Same before after len k → row_of after len k ≡ row_of before len k
-same_row before after len k same =
-    ap₂ (λ (b : Bool) (o : List ℕ). cond b (drop 32 o ∷ []) []) same.mark same.opening
+same_row before after len k same = grind (arith, common_steps)
 
 pub same_rows : (before after : List ℕ) (len n : ℕ) → ((k : ℕ) → k < n → Same before after len k) → opened_rows after len n ≡ opened_rows before len n
 unfolding opened_rows
@@ -17,7 +17,7 @@ same_rows before after len (suc n) same =
 
 -- a party that has not opened gives no row, and one that has gives its bits
 pub row_none : (seals : List ℕ) (len k : ℕ) → has_opened seals len k ≡ false → row_of seals len k ≡ []
-row_none seals len k e = ap (λ (b : Bool). cond b (drop 32 (opening_in seals len k) ∷ []) []) e
+row_none seals len k e = grind (arith, common_steps)
 
 pub row_one : (seals x : List ℕ) (len k : ℕ) → has_opened seals len k ≡ true → opening_in seals len k ≡ x → row_of seals len k ≡ drop 32 x ∷ []
-row_one seals x len k e o = ap₂ (λ (b : Bool) (y : List ℕ). cond b (drop 32 y ∷ []) []) e o
+row_one seals x len k e o = grind (arith, common_steps)

@@ -1,7 +1,7 @@
 -- A sum of rows with one row more, and with two in either order. Assumes nothing.
-use Rattle.std.proofs.Common.{◌≡◌, ℕ, List, [], ◌∷◌, ◌++◌, sym, refl, ap, ◌∙◌}
+use Rattle.std.proofs.Common.{◌≡◌, ℕ, List, [], ◌∷◌, ◌++◌, sym, refl, ap, ◌∙◌, append_assoc}
 use Rattle.std.specs.List.Sorted.{IsPermutation}
-use Rattle.std.proofs.lemmas.List.Sorted.{IsPermutation-sym, IsPermutation-cons, IsPermutation-trans, IsPermutation-to_front}
+use Rattle.std.proofs.lemmas.List.Sorted.{IsPermutation-append_right, IsPermutation-append_comm}
 use Rattle.sum.specs.Sums.{xor_bytes, sum_of}
 use Rattle.sum.proofs.Sums.{any_order_holds, one_more_holds}
 
@@ -10,10 +10,8 @@ sum_push L rows row = sym (one_more_holds (sum_of L rows) row (xor_bytes (sum_of
 
 pub shuffled_last_two : {X : Type 0} (xs : List X) (a b : X) → IsPermutation ((xs ++ a ∷ []) ++ b ∷ []) ((xs ++ b ∷ []) ++ a ∷ [])
 shuffled_last_two {X} xs a b =
-    let ends : (y z : X) → IsPermutation ((xs ++ y ∷ []) ++ z ∷ []) (z ∷ (xs ++ y ∷ [])) = λ y z. IsPermutation-to_front (xs ++ y ∷ []) z in
-    let front : IsPermutation (b ∷ (xs ++ a ∷ [])) (a ∷ (b ∷ xs)) = IsPermutation-to_front (b ∷ xs) a in
-    let back : IsPermutation (a ∷ (b ∷ xs)) (a ∷ (xs ++ b ∷ [])) = IsPermutation-cons a (b ∷ xs) (xs ++ b ∷ []) (IsPermutation-sym _ _ (IsPermutation-to_front xs b)) in
-    IsPermutation-trans _ _ _ (ends a b) (IsPermutation-trans _ _ _ front (IsPermutation-trans _ _ _ back (IsPermutation-sym _ _ (ends b a))))
+    let two : IsPermutation (a ∷ b ∷ []) (b ∷ a ∷ []) = IsPermutation-append_comm (a ∷ []) (b ∷ []) in
+    simp append_assoc (IsPermutation-append_right xs (a ∷ b ∷ []) (b ∷ a ∷ []) two)
 
 pub sum_turn : (L : ℕ) (rows : List (List ℕ)) (a b : List ℕ) → xor_bytes (xor_bytes (sum_of L rows) a) b ≡ xor_bytes (xor_bytes (sum_of L rows) b) a
 sum_turn L rows a b = sym (twice a b) ∙ (any_order_holds L _ _ (shuffled_last_two rows b a) ∙ twice b a)
