@@ -1,4 +1,3 @@
-pub mod Pastes
 pub mod Puts
 pub mod Writing
 pub mod Hexes

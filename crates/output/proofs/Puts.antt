@@ -1,11 +1,10 @@
 -- Laws of writing. Assumes nothing.
-use Rattle.std.proofs.Common.{◌≡◌, ℕ, ◌+◌, ◌-◌, ◌<◌, ◌≤◌, min, List, [], ◌∷◌, ◌++◌, length, take, drop, set, sym, refl, ap, ◌∙◌, ⊎_elim, zero-add, arith, length-set, take-append-drop}
-use lib.Seq.{paste}
+use Rattle.std.proofs.Common.{◌≡◌, ℕ, zero, suc, get_or, ◌+◌, ◌-◌, ◌<◌, ◌≤◌, min, List, [], ◌∷◌, ◌++◌, length, take, drop, set, sym, refl, ap, ◌∙◌, ⊎_elim, zero-add, arith, take-append-drop}
+use Rattle.std.proofs.Math.Seq.{paste, paste-suc, take-suc}
 use Rattle.std.proofs.lemmas.List.Edits.{paste_none, length-paste}
 use Rattle.std.proofs.lemmas.List.{drop_all, flat_map_more, length-take-le, take_all, take_at}
 use Rattle.std.proofs.lemmas.Bool.{cases_lt, cond_below, cond_above}
 use Rattle.std.specs.List.{flat_map}
-use Rattle.output.proofs.Pastes.{byte_row}
 use Rattle.output.specs.Output.{put, put_byte}
 
 -- two rows one after the other
@@ -34,22 +33,27 @@ unfolding put
 put_full m at [] l = refl
 put_full m at (b ∷ bs) l = ap (λ (z : List ℕ × ℕ). put z bs) (byte_lost m at b l) ∙ put_full m at bs l
 
-pub put_fits : (m : List ℕ) (at : ℕ) (bs : List ℕ) (n : ℕ) → n ≡ length bs → at + n ≤ length m → put (m, at) bs ≡ (paste m at bs n, at + n)
+-- as many bytes as fit
+pub put_taken : (m : List ℕ) (at : ℕ) (bs : List ℕ) (n : ℕ) → at + n ≤ length m → n ≤ length bs → put (m, at) (take n bs) ≡ (paste m at bs n, at + n)
 unfolding put
-put_fits m at [] n e l = (λ i. (paste_none m at [] i, sum i)) ∙ ap (λ (k : ℕ). (paste m at [] k, at + k)) (sym e)
+put_taken m at bs zero l k = (λ i. (paste_none m at bs i, sum i))
   where
     sum : at ≡ at + 0
     sum = omega arith
-put_fits m at (b ∷ bs) n e l =
-    ap (λ (z : List ℕ × ℕ). put z bs) (byte_fits m at b (omega arith))
-    ∙ (put_fits (set m at b) (at + 1) bs (length bs) refl (omega (arith, length-set m at b))
-    ∙ ((λ i. (byte_row m bs at b (omega arith) i, sum i)) ∙ ap (λ (k : ℕ). (paste m at (b ∷ bs) k, at + k)) all))
+put_taken m at bs (suc n) l k =
+    ap (put (m, at)) (take-suc bs n 0 k)
+    ∙ (put_append (m, at) (take n bs) (b ∷ [])
+    ∙ (ap (λ (z : List ℕ × ℕ). put z (b ∷ [])) (put_taken m at bs n (omega arith) (omega arith))
+    ∙ (put_one (paste m at bs n) (at + n) b (omega (arith, length-paste m at bs n (omega arith) (omega arith))) ∙ (λ i. (paste-suc m at bs n 0 (omega arith) k i, sum i)))))
   where
-    sum : at + 1 + length bs ≡ at + (1 + length bs)
+    b : ℕ
+    b = get_or bs n 0
+
+    sum : at + n + 1 ≡ at + suc n
     sum = omega arith
 
-    all : 1 + length bs ≡ n
-    all = omega arith
+pub put_fits : (m : List ℕ) (at : ℕ) (bs : List ℕ) (n : ℕ) → n ≡ length bs → at + n ≤ length m → put (m, at) bs ≡ (paste m at bs n, at + n)
+put_fits m at bs n e l = ap (put (m, at)) (sym (take_all n bs (omega arith))) ∙ put_taken m at bs n l (omega arith)
 
 -- as many bytes as there is room for
 pub put_front : (m : List ℕ) (at : ℕ) (bs : List ℕ) (n : ℕ) → at ≤ length m → n ≡ min (length bs) (length m - at)
@@ -103,12 +107,3 @@ put_done m e h = sym (put_none m) ∙ (ap (put m) (sym e) ∙ h)
 pub put_joined : {X : Type 0} (f : X → List ℕ) (m : List ℕ × ℕ) {n o : List ℕ × ℕ} (xs : List X) {more : List X} (x : X)
     → n ≡ put m (flat_map f xs) → o ≡ put n (f x) → more ≡ xs ++ x ∷ [] → o ≡ put m (flat_map f more)
 put_joined f m xs x h e a = put_then m (flat_map f xs) (f x) h e ∙ ap (put m) (flat_map_more f [] xs x ∙ ap (flat_map f) (sym a))
-
--- the memory keeps its length, and the next place moves on as far as there is room
-pub put_moves : (m : List ℕ × ℕ) (bs : List ℕ) → m.1 ≤ length m.0
-    → ((put m bs).1 ≡ m.1 + min (length bs) (length m.0 - m.1)) × (length (put m bs).0 ≡ length m.0)
-put_moves m bs l =
-    let n : ℕ = min (length bs) (length m.0 - m.1) in
-    let is = put_front m.0 m.1 bs n l refl in
-    let long = length-take-le n bs (omega arith) in
-    (ap (λ (z : List ℕ × ℕ). z.1) is, ap (λ (z : List ℕ × ℕ). length z.0) is ∙ length-paste m.0 m.1 (take n bs) n (omega arith) (omega (arith, long)))
