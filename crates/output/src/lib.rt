@@ -8,6 +8,10 @@ ghost use Rattle.output.specs.Writes.{Writes};
 
 use parts::front;
 
+mod growing;
+
+pub use growing::whole;
+
 // Lent memory, and the place in it where the next byte goes.
 //
 // What is put is written as far as the memory goes, and the place moves behind what is written. So a place before the end
