@@ -10,12 +10,12 @@ use Rattle.seals.specs.Steps.{most_parties, seal_fault, sealed_at, sealed, openi
 
 -- a test that refuses, before an answer
 pub test_passed : {A E : Type 0} (b : Bool) (why : E) (rest : Result A E) (a : A) → cond b (Err why) rest ≡ Ok a → (b ≡ false) × (rest ≡ Ok a)
-test_passed true why rest a e = let z : ◌≡◌ {A = ℕ} 0 1 = cc in absurd (omega arith)
+test_passed true why rest a e = grind arith
 test_passed false why rest a e = (refl, e)
 
 sealed_where : (seals x : List ℕ) (parties n : ℕ) (fault : Result ℕ Refusal) → (sealed_at seals parties x fault).answer ≡ Ok n → ((at : ℕ) × (fault ≡ Ok at)) × (n ≡ parties + 1)
 sealed_where seals x parties n (Ok at) e = ((at, refl), cc)
-sealed_where seals x parties n (Err why) e = let z : ◌≡◌ {A = ℕ} 0 1 = cc in absurd (omega arith)
+sealed_where seals x parties n (Err why) e = grind arith
 
 pub record SealFacts (seals x : List ℕ) (len parties n : ℕ) : Type 0 where
   pub next : n ≡ parties + 1
@@ -41,7 +41,7 @@ seal_passed seals x len parties n e =
 
 opened_where : (seals x : List ℕ) (fault : Result ℕ Refusal) → (opened_at seals x fault).answer ≡ Ok tt → (at : ℕ) × (fault ≡ Ok at)
 opened_where seals x (Ok at) e = (at, refl)
-opened_where seals x (Err why) e = let z : ◌≡◌ {A = ℕ} 0 1 = cc in absurd (omega arith)
+opened_where seals x (Err why) e = grind arith
 
 pub record OpeningFacts (seals context x : List ℕ) (len parties party : ℕ) : Type 0 where
   pub exists : party < parties

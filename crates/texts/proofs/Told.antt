@@ -15,10 +15,10 @@ Ended s (c ∷ cs) = c ≡ s
 -- bytes above s end where s follows or nothing
 parted : (s : ℕ) (a b p q : List ℕ) → AllByRecursion (λ c. s < c) a → AllByRecursion (λ c. s < c) b → Ended s p → Ended s q → a ++ p ≡ b ++ q → (a ≡ b) × (p ≡ q)
 parted s [] [] p q i j u v e = (refl, e)
-parted s [] (d ∷ b) [] q i j u v e = absurd (let z : ◌≡◌ {A = ℕ} 0 1 = cc in omega arith)
-parted s [] (d ∷ b) (c ∷ p) q i j u v e = absurd (let z : c ≡ d = cc in omega arith)
-parted s (c ∷ a) [] p [] i j u v e = absurd (let z : ◌≡◌ {A = ℕ} 0 1 = cc in omega arith)
-parted s (c ∷ a) [] p (d ∷ q) i j u v e = absurd (let z : c ≡ d = cc in omega arith)
+parted s [] (d ∷ b) [] q i j u v e = grind arith
+parted s [] (d ∷ b) (c ∷ p) q i j u v e = grind arith
+parted s (c ∷ a) [] p [] i j u v e = grind arith
+parted s (c ∷ a) [] p (d ∷ q) i j u v e = grind arith
 parted s (c ∷ a) (d ∷ b) p q i j u v e =
     let z : c ≡ d = cc in
     let rest : a ++ p ≡ b ++ q = cc in
@@ -41,8 +41,8 @@ numbers_ended (x ∷ xs) = refl
 
 numbers_told : (xs ys : List ℕ) → AllByRecursion (λ x. x < 2 ^ 64) xs → AllByRecursion (λ x. x < 2 ^ 64) ys → numbers xs ≡ numbers ys → xs ≡ ys
 numbers_told [] [] i j e = refl
-numbers_told [] (y ∷ ys) i j e = absurd (let z : ◌≡◌ {A = ℕ} 0 1 = cc in omega arith)
-numbers_told (x ∷ xs) [] i j e = absurd (let z : ◌≡◌ {A = ℕ} 0 1 = cc in omega arith)
+numbers_told [] (y ∷ ys) i j e = grind arith
+numbers_told (x ∷ xs) [] i j e = grind arith
 numbers_told (x ∷ xs) (y ∷ ys) i j e =
     let rest : decimal x ++ numbers xs ≡ decimal y ++ numbers ys = cc in
     let r = parted 32 (decimal x) (decimal y) (numbers xs) (numbers ys) (above_space _ (decimal_digits x i.0)) (above_space _ (decimal_digits y j.0))
@@ -54,10 +54,10 @@ numbers_told (x ∷ xs) (y ∷ ys) i j e =
 -- a digit begins no word
 not_a_word : (ds rest : List ℕ) → AllByRecursion Digit ds → 0 < length ds → ds ++ rest ≡ codes "none" → ⊥
 not_a_word [] rest i l e = omega arith
-not_a_word (d ∷ ds) rest i l e = let z : d ≡ 110 = cc in omega arith
+not_a_word (d ∷ ds) rest i l e = grind arith
 
 not_none : (xs : List ℕ) → AllByRecursion (λ x. x < 2 ^ 64) xs → numbers xs ≡ codes " none" → ⊥
-not_none [] i e = let z : ◌≡◌ {A = ℕ} 0 1 = cc in omega arith
+not_none [] i e = grind arith
 not_none (x ∷ xs) i e =
     let word : decimal x ++ numbers xs ≡ codes "none" = cc in
     not_a_word (decimal x) (numbers xs) (decimal_digits x i.0) (decimal_nonempty x i.0) word

@@ -1,4 +1,5 @@
 use Rattle.std.proofs.Common.{map, length, Less, Equal, Greater, sym, ◌∙◌, arith}
+use Rattle.std.proofs.lemmas.Grind.{common_steps}
 use Rattle.std.proofs.lemmas.List.{length-map}
 use Rattle.entries.specs.Rows.{name_in}
 use Rattle.entries.specs.Place.{place}
@@ -29,10 +30,5 @@ loop-low-preserved c =
     let p = compared c.args.slots.now c.args.numbers.now c.args.name.now _ i.0 c.loop-low.low c.loop-low.high Greater c.loop-low-test.true c.loop-low.invariant.1 i.1 c.name_in.ensures.is c.in-Greater.ensures in
     (omega arith, omega arith, (p.0, omega arith, sym p.1.1 ∙ i.2))
 
-pub returns : goal.returns
-returns c =
-    let i = c.loop-low.invariant.2 in
-    record {
-      is = closed (map (name_in c.args.slots.now) c.args.numbers.now) c.args.name.now i.0 c.loop-low.low c.loop-low.high c.loop-low-test.false ∙ i.2;
-      within = omega arith;
-    }
+pub returns-clause-is : goal.returns-clause-is
+returns-clause-is c = grind (arith, common_steps, closed)
