@@ -5,7 +5,7 @@
 // in, and its place is found by halving.
 #![tactic(auto)]
 
-ghost use Rattle.std.specs.Prelude.{◌≡◌, ℕ, ◌+◌, ◌*◌, ◌<◌, ◌≤◌, List, [], map, length, take, IfSome, IfOk, slice_index_or};
+ghost use Rattle.std.specs.Prelude.{◌≡◌, ◌+◌, ◌<◌, ◌≤◌, List, [], map, length, take, IfSome, IfOk, slice_index_or};
 ghost use Rattle.std.proofs.Math.Seq.{paste};
 ghost use Rattle.refusals.specs.Answers.{done, number_or};
 ghost use Rattle.entries.specs.Rows.{name_in, packed, packed_rows, list_hash};

@@ -5,9 +5,8 @@
 // room for its opening.
 #![tactic(auto)]
 
-ghost use Rattle.std.specs.Prelude.{◌≡◌, ℕ, ◌+◌, ◌*◌, ◌^◌, ◌<◌, ◌≤◌, Bool, List, ◌∷◌, ◌++◌, length, take, drop};
+ghost use Rattle.std.specs.Prelude.{◌≡◌, ◌+◌, ◌*◌, ◌≤◌, length};
 ghost use Rattle.std.proofs.Math.Seq.{paste};
-ghost use Rattle.std.specs.Str.{bytes_eq};
 ghost use Rattle.refusals.specs.Answers.{done, number_or};
 ghost use Rattle.seals.specs.Seal.{seal_of, TwoOpenings};
 ghost use Rattle.seals.specs.Records.{record_size, has_opened, opened_count, seal_in};

@@ -1,10 +1,10 @@
 // The lines that the programs print.
 #![tactic(auto)]
 
-ghost use Rattle.std.specs.Prelude.{◌≡◌, cond, List, ◌++◌, is_ok, IfOk, string_bytes, codes, decimal, OnOk};
+ghost use Rattle.std.specs.Prelude.{◌≡◌, ◌++◌, IfOk, string_bytes, OnOk};
 ghost use Rattle.std.specs.Option.{option_map};
 ghost use Rattle.texts.specs.Laws.{OrderTold, SummaryTold};
-ghost use Rattle.texts.specs.Lines.{refusal_line, left_out_line, summary_lines, order_words, count_words};
+ghost use Rattle.texts.specs.Lines.{refusal_line, left_out_line, summary_lines, order_words};
 
 use refusals::Refusal;
 use std::alloc::{AllocError, Global};
@@ -13,14 +13,14 @@ use std::alloc::{AllocError, Global};
 pub fn add_refusal(text: &mut String, step: usize, why: Refusal) -> Result<(), AllocError>
     ensures { OnOk result (string_bytes text.new ≡ string_bytes text.old ++ refusal_line step why) }
 {
-    write!(text, "step {step} {why}\n")
+    writeln!(text, "step {step} {why}")
 }
 
 // Adds the line that names a party whose opening has not come.
 pub fn add_left_out(text: &mut String, party: u8) -> Result<(), AllocError>
     ensures { OnOk result (string_bytes text.new ≡ string_bytes text.old ++ left_out_line party) }
 {
-    write!(text, "party {party} left out\n")
+    writeln!(text, "party {party} left out")
 }
 
 // Adds the numbers of an order, each after a space, or the word for none.
