@@ -1,5 +1,5 @@
 -- What the drawing of an order answers, and what it leaves in the slice that it was lent. Assumes nothing: these are definitions.
-use Rattle.std.specs.Prelude.{ℕ, zero, suc, ◌+◌, ◌-◌, ◌^◌, cond, List, ◌++◌, length, drop, Some, None, Option, nat_lt}
+use Rattle.std.specs.Prelude.{ℕ, zero, suc, ◌+◌, ◌-◌, ◌^◌, cond, List, ◌++◌, length, drop, Some, None, Option, min, nat_lt}
 use Rattle.order.specs.Orders.{Order, some, none, order, written, order_names}
 use Rattle.uniform.specs.Bits.{bits}
 use Rattle.uniform.specs.Draws.{Drawn, got, out, draw}
@@ -34,6 +34,13 @@ drawn_from n bs = told (order_names n bs) (bits_read n bs)
 -- the drawing of n names from the bits of bytes, from a place on. Places are numbers of 64 bits: bytes whose bits have no such place give no order
 unfoldable pub drawn_order : ℕ → List ℕ → ℕ → Drawing
 drawn_order n bytes from = cond (nat_lt (length bytes) (2 ^ 61)) (drawn_from n (drop from (bits bytes))) run_out
+
+-- how many names a slice takes: one for each place, 65,535 at most; and the drawing of so many
+abbrev pub names_in : List ℕ → ℕ
+names_in here = min (length here) 65535
+
+abbrev pub drawn_in : List ℕ → List ℕ → ℕ → Drawing
+drawn_in here bytes from = drawn_order (names_in here) bytes from
 
 -- the answer to a drawing: how many bits were read, or none where they have run out
 abbrev pub outcome : Drawing → Option ℕ

@@ -3,37 +3,33 @@
 // so on to the last. The order is told as numbers of the list, 0 to n - 1.
 #![tactic(auto)]
 
-ghost use Rattle.std.specs.Prelude.{◌≡◌, ◌-◌, ◌/◌, ◌^◌, ◌<◌, min, length, take, drop, if◌then◌else◌, nat_lt, slice_index};
-ghost use Rattle.order.specs.Drawings.{drawing_of, drawn_order, outcome, place_after, left_in};
+ghost use Rattle.std.specs.Prelude.{◌≡◌, ◌-◌, ◌/◌, ◌^◌, ◌<◌, length, take, drop, if◌then◌else◌, nat_lt, slice_index};
+ghost use Rattle.std.specs.Option.{option_map};
+ghost use Rattle.order.specs.Drawings.{drawing_of, names_in, drawn_in, outcome, place_after, left_in};
 ghost use Rattle.order.specs.Laws.{EachOnce, ExactlyRead};
 ghost use Rattle.order.specs.Orders.{numbers_from, without};
 ghost use Rattle.uniform.specs.Bits.{bits};
 
-use uniform::draw_below;
+use uniform::BitReader;
 
 // Names have numbers of 16 bits, of which the last is no name's.
 const MOST_NAMES: usize = 65_535;
 
-// A place of a bit is a `usize`, so rows of this many bytes and more have bits without a place.
-const TOO_LONG: usize = 1 << 61;
-
 // Draws the order of as many names as the slice has places, from the bits from a place on. Past 65,535 places the slice stays as it is, and so does
 // all of it where the bits run out: nothing is written before the last number is drawn. Gives how many bits were read, or none where they have run out.
 pub fn draw_order(order: &mut [u16], bytes: &[u8], from: usize) -> Option<usize>
-    ensures is { result ≡ outcome (drawn_order (min (length order.old) 65535) bytes.now from) }
-    ensures after { order.new ≡ left_in (drawn_order (min (length order.old) 65535) bytes.now from) order.old }
-    ensures once { EachOnce (min (length order.old) 65535) (drawn_order (min (length order.old) 65535) bytes.now from) }
-    ensures exact { ExactlyRead (min (length order.old) 65535) (drop from (bits bytes.now)) (drawn_order (min (length order.old) 65535) bytes.now from) }
+    ensures is { result ≡ outcome (drawn_in order.old bytes.now from) }
+    ensures after { order.new ≡ left_in (drawn_in order.old bytes.now from) order.old }
+    ensures once { EachOnce (names_in order.old) (drawn_in order.old bytes.now from) }
+    ensures exact { ExactlyRead (names_in order.old) (drop from (bits bytes.now)) (drawn_in order.old bytes.now from) }
 {
-    if bytes.len() >= TOO_LONG {
-        return None;
-    }
+    let mut reader = BitReader::new(bytes, from)?;
     let n = order.len().min(MOST_NAMES);
     let mut names = [u16::MAX; MOST_NAMES];
     let left = &mut names[0..n];
     number(left);
-    let end = draw_rest(&mut order[0..n], left, bytes, from)?;
-    Some(end - from)
+    draw_rest(&mut order[..n], left, &mut reader)?;
+    Some(reader.at - from)
 }
 
 // The names of the list in its order: 0, 1, and so on.
@@ -46,28 +42,22 @@ fn number(names: &mut [u16])
     }
 }
 
-// The order of the names that are left, and the place of the next bit. It is written on the way back, when the last number is drawn.
-fn draw_rest(order: &mut [u16], left: &mut [u16], bytes: &[u8], from: usize) -> Option<usize>
+// The order of the names that are left, or none. It is written on the way back, when the last number is drawn.
+fn draw_rest(order: &mut [u16], left: &mut [u16], reader: &mut BitReader<'_>) -> Option<()>
     requires each { length left.old ≡ length order.old }
     requires few { length order.old < 2 ^ 16 }
-    requires short { length bytes.now < 2 ^ 61 }
-    ensures is { result ≡ place_after from (drawing_of left.old (drop from (bits bytes.now))) }
-    ensures after { order.new ≡ left_in (drawing_of left.old (drop from (bits bytes.now))) order.old }
+    ensures is { option_map (λ u. reader.new.at) result ≡ place_after reader.old.at (drawing_of left.old (drop reader.old.at (bits reader.old.bytes.now))) }
+    ensures after { order.new ≡ left_in (drawing_of left.old (drop reader.old.at (bits reader.old.bytes.now))) order.old }
 {
     let n = order.len();
     if n == 0 {
-        return Some(from);
+        return Some(());
     }
-    let (k, next) = draw_below(bytes, from, n as u16)?;
+    let k = reader.draw_below(n as u16)?;
     let (name, first) = take_out(left, k as usize);
-    let end = draw_rest(
-        &mut order[1..n],
-        &mut left[first..first + n - 1],
-        bytes,
-        next,
-    )?;
+    draw_rest(&mut order[1..], &mut left[first..first + n - 1], reader)?;
     order[0] = name;
-    Some(end)
+    Some(())
 }
 
 // Takes out name k. The names on the shorter side of it move, so that the others stand in their order from the place told on, 1 or 0.

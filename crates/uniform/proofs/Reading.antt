@@ -1,7 +1,8 @@
 -- A number read from three bytes by shifts and masks. Assumes nothing.
-use lib.Bits.{bit_and, bit_or}
-use Rattle.std.proofs.Common.{◌≡◌, ℕ, zero, suc, ◌+◌, ◌-◌, ◌*◌, ◌/◌, ◌%◌, ◌^◌, ◌<◌, ◌≤◌, ◌⊎◌, List, [], ◌∷◌, length, get_or, drop, sym, refl, ap, ◌∙◌, ap₂, inl, inr, arith}
-use Rattle.std.proofs.lemmas.Nat.{and_mask, or_shifted, one_shl, div-add-mod'}
+use lib.Bits.{bit_and}
+use Rattle.std.specs.Int.{from_be_bytes}
+use Rattle.std.proofs.Common.{◌≡◌, ℕ, zero, suc, ◌+◌, ◌-◌, ◌*◌, ◌/◌, ◌%◌, ◌^◌, ◌<◌, ◌≤◌, ◌⊎◌, List, [], ◌∷◌, length, get_or, drop, sym, refl, ap, ◌∙◌, ap₂, inl, inr, arith, w32}
+use Rattle.std.proofs.lemmas.Nat.{and_mask, one_shl, div-add-mod'}
 use Rattle.std.proofs.lemmas.List.{get_or-drop, length-drop}
 use Rattle.std.proofs.lemmas.Bool.{cases_lt}
 use Rattle.uniform.proofs.Bits.{bits_are, length_bits, drop_bits, number_byte}
@@ -13,14 +14,9 @@ use Rattle.uniform.specs.Draws.{number}
 abbrev joined : ℕ → ℕ → ℕ → ℕ
 joined a b c = a * 65536 + b * 256 + c
 
--- `a << 16 | b << 8 | c`
-shifted : (a b c : ℕ) → a < 256 → b < 256 → c < 256 → bit_or (bit_or ((a * 65536) % 4294967296) ((b * 256) % 4294967296)) c ≡ joined a b c
-shifted a b c h k l =
-    let e : (a * 65536) % 4294967296 ≡ a * 2 ^ 16 = omega arith in
-    let f : (b * 256) % 4294967296 ≡ b * 256 = omega arith in
-    let p : bit_or (a * 2 ^ 16) (b * 256) ≡ a * 2 ^ 16 + b * 256 = or_shifted a 16 (b * 256) (omega arith) in
-    let g : a * 2 ^ 16 + b * 256 ≡ (a * 256 + b) * 2 ^ 8 = omega arith in
-    ap₂ (λ x y. bit_or (bit_or x y) c) e f ∙ ap (λ x. bit_or x c) (p ∙ g) ∙ or_shifted (a * 256 + b) 8 c (omega arith) ∙ omega arith
+-- `u32::from_be_bytes`
+in_a_word : (a b c : ℕ) → from_be_bytes w32 (0 ∷ a ∷ b ∷ c ∷ []) ≡ joined a b c
+in_a_word a b c = omega arith
 
 -- `x & (1 << w) - 1`
 masked : (x w : ℕ) → w ≤ 16 → bit_and x ((1 * 2 ^ w) % 4294967296 - 1) ≡ x % 2 ^ w
@@ -56,7 +52,7 @@ front bs j h l p q r =
     ∙ ap (λ z. number z 0 three / 2 ^ (24 - j)) e
     ∙ ap (λ z. z / 2 ^ (24 - j)) (all_three (get_or bs 0 0) (get_or bs 1 0) (get_or bs 2 0) p q r)
 
-module _ (bs : List ℕ) (place w a b c : ℕ) (is_a : a ≡ get_or bs (place / 8) 0) (is_b : b ≡ get_or bs (place / 8 + 1) 0) (is_c : c ≡ get_or bs (place / 8 + 2) 0)
+module _ (bs : List ℕ) (place w a b c word : ℕ) (is_word : word ≡ from_be_bytes w32 (0 ∷ a ∷ b ∷ c ∷ [])) (is_a : a ≡ get_or bs (place / 8) 0) (is_b : b ≡ get_or bs (place / 8 + 1) 0) (is_c : c ≡ get_or bs (place / 8 + 2) 0)
     (small_a : a < 256) (small_b : b < 256) (small_c : c < 256) (few : w ≤ 16) (room : w ≤ 8 * length bs - place) where
   bits_there : 0 < w → joined a b c / 2 ^ (24 - place % 8 - w) % 2 ^ w ≡ number w 0 (drop place (bits bs))
   bits_there pos =
@@ -83,9 +79,7 @@ module _ (bs : List ℕ) (place w a b c : ℕ) (is_a : a ≡ get_or bs (place / 
   by_width (inl h) = bits_there h
   by_width (inr h) = no_bits (omega arith)
 
-  pub read_is : bit_and (bit_or (bit_or ((a * 65536) % 4294967296) ((b * 256) % 4294967296)) c / 2 ^ (24 - bit_and place 7 - w)) ((1 * 2 ^ w) % 4294967296 - 1)
-      ≡ number w 0 (drop place (bits bs))
+  pub read_is : bit_and (word / 2 ^ (24 - place % 8 - w)) ((1 * 2 ^ w) % 4294967296 - 1) ≡ number w 0 (drop place (bits bs))
   read_is =
-      masked (bit_or (bit_or ((a * 65536) % 4294967296) ((b * 256) % 4294967296)) c / 2 ^ (24 - bit_and place 7 - w)) w few
-      ∙ ap₂ (λ x y. x / 2 ^ (24 - y - w) % 2 ^ w) (shifted a b c small_a small_b small_c) (and_mask place 3)
+      masked (word / 2 ^ (24 - place % 8 - w)) w few ∙ ap (λ x. x / 2 ^ (24 - place % 8 - w) % 2 ^ w) (is_word ∙ in_a_word a b c)
       ∙ by_width (cases_lt 0 w)

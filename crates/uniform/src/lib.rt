@@ -3,33 +3,57 @@
 // one the highest; a number not below n is thrown away, and w bits are read again.
 #![tactic(auto)]
 
-ghost use Rattle.std.specs.Prelude.{◌≡◌, ◌+◌, ◌-◌, ◌*◌, ◌^◌, ◌<◌, ◌≤◌, length, drop, IfSome, slice_index};
+ghost use Rattle.std.specs.Prelude.{◌≡◌, ◌+◌, ◌-◌, ◌*◌, ◌^◌, ◌<◌, ◌≤◌, length, drop, IfSome, IsNone, MatchOption};
+ghost use Rattle.std.specs.Option.{option_map};
 ghost use Rattle.uniform.specs.Bits.{bits};
 ghost use Rattle.uniform.specs.Draws.{width, number, drawn_at};
+
+use parts::byte_at;
 
 // A place of a bit is a `usize`, so rows of this many bytes and more have bits without a place.
 const TOO_LONG: usize = 1 << 61;
 
-// A number below n from the bits from a place on, with the place of the next bit; or none where the bits have run out.
-pub fn draw_below(bytes: &[u8], from: usize, n: u16) -> Option<(u16, usize)>
-    ensures is { result ≡ drawn_at (bits bytes.now) from n }
-    ensures below { IfSome result (λ a. a.0 < n) }
-{
-    if n == 0 || bytes.len() >= TOO_LONG {
-        return None;
-    }
-    let end = 8 * bytes.len();
-    let w = bit_width(n);
-    let step = w as usize;
-    let mut place = from;
-    while end.saturating_sub(place) >= step {
-        let value = read(bytes, place, w);
-        place += step;
-        if value < n {
-            return Some((value, place));
+// The bits of bytes, read on from a place.
+#[derive(Drop)]
+pub struct BitReader<'a> {
+    pub bytes: &'a [u8],
+    pub at: usize,
+    pub ghost placed: { length bytes.now < 2 ^ 61 },
+}
+
+impl<'a> BitReader<'a> {
+    // The bits from a place on, or none of bytes so many that their bits have no place.
+    pub fn new(bytes: &'a [u8], at: usize) -> Option<Self>
+        ensures { MatchOption result (2 ^ 61 ≤ length bytes.now) (λ bits. (bits.bytes.now ≡ bytes.now) × (bits.at ≡ at)) }
+    {
+        if bytes.len() < TOO_LONG {
+            Some(BitReader { bytes, at })
+        } else {
+            None
         }
     }
-    None
+
+    // A number below n from the bits that come next; or none where the bits run out, and then they are still to come.
+    pub fn draw_below(&mut self, n: u16) -> Option<u16>
+        ensures is { option_map (λ k. (k, self.new.at)) result ≡ drawn_at (bits self.old.bytes.now) self.old.at n }
+        ensures below { IfSome result (λ k. k < n) }
+        ensures out { IsNone result → self.new.at ≡ self.old.at }
+        ensures same { self.new.bytes ≡ self.old.bytes }
+    {
+        if n == 0 {
+            return None;
+        }
+        let w = bit_width(n);
+        let mut at = self.at;
+        while let Some(value) = read(self.bytes, at, w) {
+            at += w as usize;
+            if value < n {
+                self.at = at;
+                return Some(value);
+            }
+        }
+        None
+    }
 }
 
 // How many bits a number below n needs: the least w with n at most 2^w.
@@ -40,26 +64,22 @@ fn bit_width(n: u16) -> u32
     16 - n.saturating_sub(1).leading_zeros()
 }
 
-// The w bits from a place on as a number. They lie in three bytes at most.
-fn read(bytes: &[u8], place: usize, w: u32) -> u16
-    requires room { w ≤ 8 * length bytes.now - place }
+// The w bits from a place on as a number, or none where fewer are left. They lie in three bytes at most.
+fn read(bytes: &[u8], at: usize, w: u32) -> Option<u16>
     requires few { w ≤ 16 }
-    ensures { result ≡ number w 0 (drop place (bits bytes.now)) }
+    requires placed { length bytes.now < 2 ^ 61 }
+    ensures { MatchOption result (8 * length bytes.now - at < w) (λ v. (w ≤ 8 * length bytes.now - at) × (v ≡ number w 0 (drop at (bits bytes.now)))) }
 {
-    let at = place >> 3;
-    let skip = (place & 7) as u32;
-    let three = (byte_at(bytes, at) << 16) | (byte_at(bytes, at + 1) << 8) | byte_at(bytes, at + 2);
-    ((three >> (24 - skip - w)) & ((1 << w) - 1)) as u16
-}
-
-// The byte at an index, or 0 past the end.
-fn byte_at(bytes: &[u8], at: usize) -> u32
-    ensures is { result ≡ slice_index bytes.now at }
-    ensures small { result < 256 }
-{
-    if at < bytes.len() {
-        u32::from(bytes[at])
-    } else {
-        0
+    if (8 * bytes.len()).saturating_sub(at) < w as usize {
+        return None;
     }
+    let first = at / 8;
+    let skip = (at % 8) as u32;
+    let three = u32::from_be_bytes([
+        0,
+        byte_at(bytes, first),
+        byte_at(bytes, first + 1),
+        byte_at(bytes, first + 2),
+    ]);
+    Some(((three >> (24 - skip - w)) & ((1 << w) - 1)) as u16)
 }

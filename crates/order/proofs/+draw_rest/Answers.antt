@@ -1,42 +1,56 @@
-use Rattle.std.proofs.Common.{sym, ◌≡◌, ◌+◌, ◌-◌, length, take, drop, ap, ◌∙◌, arith}
+use Rattle.std.proofs.Common.{sym, ◌≡◌, ◌+◌, ◌-◌, length, take, drop, Some, None, ap, ◌∙◌, subst, arith}
 use Rattle.order.proofs.+draw_rest.Goals as goal
-use Rattle.order.proofs.Rests.{no_names, first_out, later_out, later_drawn}
+use Rattle.order.proofs.Rests.{Answer, no_names, first_out, later_out, later_drawn}
+use Rattle.order.specs.Drawings.{drawing_of}
+use Rattle.std.specs.Option.{option_map}
 use Rattle.uniform.proofs.Bits.{length_bits}
 use Rattle.uniform.specs.Bits.{bits}
 
 pub returns-then-n-eq0 : goal.returns-then-n-eq0
 returns-then-n-eq0 t c =
-    let a = no_names (bits c.args.bytes.now) c.args.left.now c.args.order.now c.args.from c.requires.each (omega arith) in
+    let r = c.args.reader.now in
+    let a = no_names (bits r.bytes.now) c.args.left.now c.args.order.now r.at c.requires.each (omega arith) in
     record { is = a.0; after = a.1 }
 
 pub returns-in_err-k : goal.returns-in_err-k
 returns-in_err-k t c =
-    let a = first_out (bits c.args.bytes.now) c.args.left.now c.args.order.now c.args.from c.requires.each
-    (omega arith) (omega (arith, length_bits c.args.bytes.now)) (sym c.in_err-k.was ∙ c.draw_below.ensures.is) in
-    record { is = c.from_residual.ensures ∙ a.0; after = a.1 }
+    let r = c.args.reader.now in
+    let next = c.draw_below.new.self.at in
+    let a = first_out (bits r.bytes.now) c.args.left.now c.args.order.now r.at c.requires.each (omega arith)
+    (omega (arith, length_bits r.bytes.now, r.placed)) (sym (ap (option_map (λ k. (k, next))) c.in_err-k.was) ∙ c.draw_below.ensures.is) in
+    record { is = ap (option_map _) c.from_residual.ensures ∙ a.0; after = a.1 }
 
-pub returns-in_err-end : goal.returns-in_err-end
-returns-in_err-end t c =
-    let h = c.in_err-end.ensures in
+pub returns-in_err-draw_rest : goal.returns-in_err-draw_rest
+returns-in_err-draw_rest t c =
+    let r = c.args.reader.now in
+    let next = c.draw_below.new.self.at in
     let n = length c.args.order.now in
     let first = c.take_out-name.result.1 in
     let row = c.take_out-name.new.names in
+    let left = take (first + n - 1 - first) (drop first row) in
     let e : first + n - 1 - first ≡ length c.args.left.now - 1 = omega arith in
     let is_left = ap (λ j. take j (drop first row)) e ∙ c.take_out-name.ensures.after in
-    let a = later_out (bits c.args.bytes.now) c.args.left.now (take (first + n - 1 - first) (drop first row)) c.args.order.now c.args.from c.in_ok-k.k c.in_ok-k.next
-    c.requires.each (omega arith) (omega (arith, length_bits c.args.bytes.now)) c.in_ok-k.ensures.is is_left
-    c.draw_rest.new.order (h.is, h.after) in
-    record { is = c.from_residual-in_err-end.ensures ∙ a.0; after = a.1 }
+    let h = c.in_err-draw_rest.ensures in
+    let d = subst (λ b. Answer (drawing_of left (drop next (bits b.now))) next (take (n - 1) (drop 1 c.args.order.now)) None c.draw_rest.new.order) c.in_ok-k.ensures.same (h.is, h.after) in
+    let a = later_out (bits r.bytes.now) c.args.left.now left c.args.order.now r.at c.in_ok-k.k next
+    c.requires.each (omega arith) (omega (arith, length_bits r.bytes.now, r.placed)) c.in_ok-k.ensures.is is_left
+    c.draw_rest.new.order d in
+    record { is = ap (option_map _) c.from_residual-in_err-draw_rest.ensures ∙ a.0; after = a.1 }
 
 pub returns : goal.returns
 returns t c =
-    let h = c.in_ok-end.ensures in
+    let r = c.args.reader.now in
+    let next = c.draw_below.new.self.at in
     let n = length c.args.order.now in
     let first = c.take_out-name.result.1 in
     let row = c.take_out-name.new.names in
+    let left = take (first + n - 1 - first) (drop first row) in
     let e : first + n - 1 - first ≡ length c.args.left.now - 1 = omega arith in
     let is_left = ap (λ j. take j (drop first row)) e ∙ c.take_out-name.ensures.after in
-    let a = later_drawn (bits c.args.bytes.now) c.args.left.now (take (first + n - 1 - first) (drop first row)) c.args.order.now c.args.from c.in_ok-k.k c.in_ok-k.next
-    c.requires.each (omega arith) (omega (arith, length_bits c.args.bytes.now)) c.in_ok-k.ensures.is is_left
-    c.draw_rest.new.order c.in_ok-end.end c.take_out-name.result.0 c.take_out-name.ensures.is (h.is, h.after) in
+    let h = c.in_ok-draw_rest.ensures in
+    let end = c.draw_rest.new.reader.at in
+    let d = subst (λ b. Answer (drawing_of left (drop next (bits b.now))) next (take (n - 1) (drop 1 c.args.order.now)) (Some end) c.draw_rest.new.order) c.in_ok-k.ensures.same (h.is, h.after) in
+    let a = later_drawn (bits r.bytes.now) c.args.left.now left c.args.order.now r.at c.in_ok-k.k next
+    c.requires.each (omega arith) (omega (arith, length_bits r.bytes.now, r.placed)) c.in_ok-k.ensures.is is_left
+    c.draw_rest.new.order end c.take_out-name.result.0 c.take_out-name.ensures.is d in
     record { is = a.0; after = a.1 }
