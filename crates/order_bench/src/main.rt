@@ -26,13 +26,11 @@ fn once(order: &mut [u16; 1400], bytes: &mut [u8; 8192], sum: u64) -> u64 {
         .wrapping_add(ends)
 }
 
-fn run(rt: &HostRuntime) -> anyhow::Result<()> {
-    let mut args = env::args(rt)?;
-    let _program = args.next();
-    let mut times = 100u32;
-    if let Some(text) = args.next() {
-        times = text.parse::<u32>()?;
-    }
+fn main(rt: HostRuntime) -> anyhow::Result<()> {
+    let times = match env::args(&rt)?.nth(1) {
+        Some(text) => text.parse::<u32>()?,
+        None => 100,
+    };
     let mut bytes = [0u8; 8192];
     fill(&mut bytes);
     let mut order = [0u16; 1400];
@@ -42,8 +40,4 @@ fn run(rt: &HostRuntime) -> anyhow::Result<()> {
     }
     println!(rt; "{times} orders, sum {sum}")?;
     Ok(())
-}
-
-fn main(rt: HostRuntime) -> anyhow::Result<()> {
-    run(&rt)
 }

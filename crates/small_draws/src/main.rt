@@ -3,7 +3,7 @@
 
 ghost use Rattle.std.specs.Prelude.{◌<◌, ◌≤◌};
 
-use anyhow::anyhow;
+use anyhow::Context;
 use order::draw_order;
 
 // A tally for each row of five names, read as a number with five digits of five values.
@@ -12,10 +12,9 @@ const TALLIES: usize = 3125;
 fn tally_of(order: &[u16]) -> usize
     ensures { result < 3125 }
 {
-    let mut number = 0usize;
-    for name in order {
-        number = number.wrapping_mul(5).wrapping_add(usize::from(*name));
-    }
+    let number = order.iter().fold(0usize, |number, name| {
+        number.wrapping_mul(5).wrapping_add(usize::from(*name))
+    });
     number % TALLIES
 }
 
@@ -24,14 +23,14 @@ fn count_rows(names: usize, bits: u32, tallies: &mut [u32; TALLIES]) -> u32
     requires few { names ≤ 5 }
     requires short { bits ≤ 16 }
 {
-    let length = (bits as usize + 7) / 8;
+    let length = bits.div_ceil(8) as usize;
     let from = 8 * length - bits as usize;
     let mut without = 0u32;
     for row in 0..1u32 << bits {
         let bytes = row.to_be_bytes();
         let mut places = [0u16; 5];
         let order = &mut places[0..names];
-        if draw_order(order, &bytes[4 - length..4], from).is_some() {
+        if draw_order(order, &bytes[4 - length..], from).is_some() {
             let tally = tally_of(order);
             tallies[tally] = tallies[tally].saturating_add(1);
         } else {
@@ -43,18 +42,10 @@ fn count_rows(names: usize, bits: u32, tallies: &mut [u32; TALLIES]) -> u32
 
 // How many rows give each order, if that is the same number for all of so many orders.
 fn rows_for_each(tallies: &[u32; TALLIES], orders: usize) -> Option<u32> {
-    let mut seen = 0usize;
-    let mut each = 0u32;
-    for tally in tallies {
-        if *tally > 0 {
-            if seen > 0 && *tally != each {
-                return None;
-            }
-            each = *tally;
-            seen = seen.saturating_add(1);
-        }
-    }
-    if seen == orders { Some(each) } else { None }
+    let each = *tallies.iter().find(|tally| **tally > 0)?;
+    let equal = tallies.iter().all(|tally| *tally == 0 || *tally == each);
+    let found = tallies.iter().filter(|tally| **tally > 0).count();
+    (equal && found == orders).then_some(each)
 }
 
 fn line(rt: &HostRuntime, names: usize, orders: usize, bits: u32) -> anyhow::Result<()>
@@ -64,25 +55,19 @@ fn line(rt: &HostRuntime, names: usize, orders: usize, bits: u32) -> anyhow::Res
     let mut tallies = [0u32; TALLIES];
     let without = count_rows(names, bits, &mut tallies);
     let all = 1u32 << bits;
-    let Some(each) = rows_for_each(&tallies, orders) else {
-        return Err(anyhow!("some orders come more often than others"));
-    };
+    let each = rows_for_each(&tallies, orders).context("some orders come more often than others")?;
     println!(rt;
         "{names} names, {bits} bits: {each} rows for each order, {without} of {all} without"
     )?;
     Ok(())
 }
 
-fn run(rt: &HostRuntime) -> anyhow::Result<()> {
-    line(rt, 1, 1, 0)?;
-    line(rt, 2, 2, 3)?;
-    line(rt, 3, 6, 5)?;
-    line(rt, 3, 6, 8)?;
-    line(rt, 4, 24, 9)?;
-    line(rt, 4, 24, 12)?;
-    line(rt, 5, 120, 11)
-}
-
 fn main(rt: HostRuntime) -> anyhow::Result<()> {
-    run(&rt)
+    line(&rt, 1, 1, 0)?;
+    line(&rt, 2, 2, 3)?;
+    line(&rt, 3, 6, 5)?;
+    line(&rt, 3, 6, 8)?;
+    line(&rt, 4, 24, 9)?;
+    line(&rt, 4, 24, 12)?;
+    line(&rt, 5, 120, 11)
 }
