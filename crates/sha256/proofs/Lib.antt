@@ -1,6 +1,6 @@
 mod Blocks
-mod Digits
 mod Tail
 mod Pieces
 mod Steps
+mod Calls
 pub mod Laws

@@ -2,7 +2,7 @@
 -- Assumes nothing.
 use Rattle.std.proofs.Common.{◌≡◌, ℕ, ◌+◌, ◌%◌, ◌^◌, ◌<◌, ◌≤◌, cond, eqb, List, [], ◌∷◌, ◌++◌, length, take, drop, set, sym, refl, ap, ◌∙◌, inl, inr, arith}
 use borrow.Rule.Slice.PartMut.{put_mid}
-use Rattle.std.proofs.lemmas.List.{append_assoc, length-set, take-append-drop, take-take, drop-take, take_more_set, drop-set-lt, drop-drop}
+use Rattle.std.proofs.lemmas.List.{append_assoc, length-set, take-append-drop, take_more_set, drop-set-lt, drop-drop}
 use Rattle.std.proofs.lemmas.Bool.{cases_eq, eq-eqb, ne_eqb, cond-true, cond-false}
 use Rattle.sha256.specs.declared.state.State.{State}
 use Rattle.sha256.specs.declared.stream.Hasher.{Hasher}
@@ -101,11 +101,3 @@ module _ (h : Hasher) (piece ys : List ℕ) (k : ℕ) (low : h.total < 2 ^ 64) (
       (absorbed_grown h piece low fits
       ∙ made (grown h.state h.pending (h.total % 64) h.total piece) h.state (put_mid (h.total % 64) k h.pending ys) ((h.total + length piece) % 2 ^ 64)
       (cond-false (eqb (h.total % 64 + length piece) 64) _ _ (ne_eqb _ 64 short)) block refl)
-
--- a piece after the first bytes of a part
-pub front_more : (xs : List ℕ) (i n w : ℕ) → w ≡ n → take i xs ++ take w (drop i xs) ≡ take (i + n) xs
-front_more xs i n w e =
-    ap (λ (k : ℕ). take i xs ++ take k (drop i xs)) e
-    ∙ ap (λ (p : List ℕ). p ++ take n (drop i xs)) (sym (take-take i (i + n) xs (omega arith)))
-    ∙ ap (λ (p : List ℕ). take i (take (i + n) xs) ++ p) (sym (drop-take i n xs))
-    ∙ take-append-drop i (take (i + n) xs)

@@ -4,6 +4,5 @@ pub mod Rounds
 pub mod Schedule
 pub mod Padding
 pub mod Sha256
-pub mod Underway
 pub mod Absorbed
 pub mod Theorems

@@ -1,6 +1,8 @@
-// The padding of a message: FIPS 180-4, section 5.1.1.
-ghost use Rattle.std.specs.Prelude.{◌≡◌, ◌≤◌, take};
-ghost use Rattle.sha256.specs.Padding.{zeros, eight_bytes, padding};
+// The parts of a message's padding: FIPS 180-4, section 5.1.1.
+ghost use Rattle.std.specs.Prelude.{◌≡◌, ◌*◌, ◌%◌, ◌^◌, replicate};
+ghost use Rattle.sha256.specs.Padding.{zeros, eight_bytes};
+
+const ZEROS: [u8; 64] = [0; 64];
 
 // How many bytes of zeros there are between the first byte of the padding and the length.
 fn zero_bytes(total: u64) -> usize
@@ -9,21 +11,17 @@ fn zero_bytes(total: u64) -> usize
     ((119 - total % 64) % 64) as usize
 }
 
-// The number of bits, as the padding ends with it.
-fn length_bytes(bits: u64) -> [u8; 8]
-    ensures { result ≡ eight_bytes bits }
+// The zeros after the first byte of the padding of a message of `total` bytes.
+pub(crate) fn zeros(total: u64) -> &'static [u8]
+    ensures { result.now ≡ replicate (zeros total) 0 }
 {
-    bits.to_be_bytes()
+    &ZEROS[..zero_bytes(total)]
 }
 
-// The padding of a message of `total` bytes: as many of the bytes as the number says.
-pub(crate) fn tail(total: u64) -> ([u8; 72], usize)
-    ensures bound { result.1 ≤ 72 }
-    ensures bytes { take result.1 result.0 ≡ padding total }
+// The number of bits of a message of `total` bytes, as the padding ends with it.
+pub(crate) fn length(total: u64) -> [u8; 8]
+    ensures { result ≡ eight_bytes (8 * total % 2 ^ 64) }
 {
-    let at = zero_bytes(total) + 1;
-    let mut bytes = [0u8; 72];
-    bytes[0] = 128;
-    bytes[at..at + 8].copy_from_slice(&length_bytes(total.wrapping_mul(8)));
-    (bytes, at + 8)
+    let bits = total.wrapping_mul(8);
+    bits.to_be_bytes()
 }

@@ -17,13 +17,6 @@ const ROUND_CONSTANTS: [u32; 64] = [
     0x748f82ee, 0x78a5636f, 0x84c87814, 0x8cc70208, 0x90befffa, 0xa4506ceb, 0xbef9a3f7, 0xc67178f2,
 ];
 
-pub(crate) fn constant(t: usize) -> u32
-    requires { t < 64 }
-    ensures { result ≡ slice_index constants t }
-{
-    ROUND_CONSTANTS[t & 63]
-}
-
 pub(crate) fn start() -> State
     ensures { result ≡ initial }
 {
@@ -39,15 +32,17 @@ pub(crate) fn start() -> State
     }
 }
 
-pub(crate) fn turn(s: State, k: u32, w: u32) -> State
-    ensures { result ≡ round k w s }
+// The round `t`, with its word of the schedule.
+pub(crate) fn turn(s: State, words: &[u32; 64], t: usize) -> State
+    requires { t < 64 }
+    ensures { result ≡ round (slice_index constants t) (slice_index words.now t) s }
 {
     let t1 = s
         .h
         .wrapping_add(words::big_sigma1(s.e))
         .wrapping_add(words::choose(s.e, s.f, s.g))
-        .wrapping_add(k)
-        .wrapping_add(w);
+        .wrapping_add(ROUND_CONSTANTS[t])
+        .wrapping_add(words[t]);
     let t2 = words::big_sigma0(s.a).wrapping_add(words::majority(s.a, s.b, s.c));
     State {
         a: t1.wrapping_add(t2),

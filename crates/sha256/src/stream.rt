@@ -6,7 +6,7 @@ use crate::state::State;
 use crate::{block, padding, rounds};
 
 // `state` is the hash value after the whole blocks so far, the first bytes of `pending` are those of the block that is
-// not whole yet, and `total` is the number of all the bytes, modulo 2^64.
+// not whole yet, and `total` is the number of all the bytes, modulo 2^64. The memory is fixed, since no heap is used here.
 #[derive(Clone, Copy)]
 pub struct Hasher {
     state: State,
@@ -42,20 +42,23 @@ impl Hasher {
     pub fn update(&mut self, part: &[u8])
         ensures { self.new ≡ absorbed self.old part.now }
     {
-        let mut at = 0;
-        while at < part.len() {
+        let mut left = part;
+        while !left.is_empty() {
             let room = 64 - (self.total % 64) as usize;
-            let n = room.min(part.len() - at);
-            self.absorb(&part[at..at + n]);
-            at += n;
+            let (piece, after) = left.split_at(room.min(left.len()));
+            self.absorb(piece);
+            left = after;
         }
     }
 
+    // The padding is the byte 128, the zeros and the length.
     pub fn finish(mut self) -> [u8; 32]
         ensures { result ≡ finished self }
     {
-        let (bytes, n) = padding::tail(self.total);
-        self.update(&bytes[0..n]);
+        let total = self.total;
+        self.update(&[128]);
+        self.update(padding::zeros(total));
+        self.update(&padding::length(total));
         block::digest(self.state)
     }
 }

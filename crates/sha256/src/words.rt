@@ -14,6 +14,7 @@ pub(crate) fn majority(x: u32, y: u32, z: u32) -> u32
     (x & y) ^ (x & z) ^ (y & z)
 }
 
+// Four functions and not one with const parameters: the standard names each, and numbers at the calls would say less.
 pub(crate) fn big_sigma0(x: u32) -> u32
     ensures { result ≡ big_sigma0 x }
 {

@@ -1,9 +1,10 @@
-use Rattle.std.proofs.Common.{◌≡◌, ◌-◌, ◌≤◌, length, take}
+use Rattle.std.proofs.Common.{◌≡◌, length}
 use Rattle.sha256.specs.Absorbed.{absorbed}
 use Rattle.sha256.proofs.stream.Hasher.update.Given as goal
 
-abbrev pub invariant-loop-at : goal.invariant-loop-at
-invariant-loop-at l = (l.at ≤ length l.part) × (l.self ≡ absorbed l.initial.self (take l.at l.part))
+-- what is left still has to be taken in
+abbrev pub invariant-loop-left : goal.invariant-loop-left
+invariant-loop-left l = absorbed l.self l.left ≡ absorbed l.fn.self l.fn.part
 
-abbrev pub decreases-loop-at : goal.decreases-loop-at
-decreases-loop-at l = length l.part - l.at
+abbrev pub decreases-loop-left : goal.decreases-loop-left
+decreases-loop-left l = length l.left
