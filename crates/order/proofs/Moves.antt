@@ -28,15 +28,6 @@ closed k xs tail h e =
     ap (λ j. take j (take k xs ++ tail)) p ∙ take_joined k m xs tail (omega arith)
     ∙ ap (λ z. take k xs ++ z) (e ∙ drop-drop 1 k xs ∙ ap (λ j. drop j xs) (add-one k)) ∙ sym (without_split k xs)
 
--- the names behind place k are moved to the front by one
-pub gap_closed : (k : ℕ) (xs tail : List ℕ) → k < length xs
-    → take (length (take (length xs - k) (drop k xs)) - 1) tail ≡ drop 1 (take (length xs - k) (drop k xs))
-    → take (length xs - 1) (put_mid k (length xs - k) xs tail) ≡ without k xs
-gap_closed k xs tail h e =
-    let p : drop (length xs - k) (drop k xs) ≡ [] = drop_all (length xs - k) (drop k xs) (omega (arith, length-drop k xs)) in
-    ap (λ z. take (length xs - 1) (take k xs ++ z)) (ap (λ z. tail ++ z) p ∙ append-nil tail)
-    ∙ closed k xs tail h (subst (λ z. take (length z - 1) tail ≡ drop 1 z) (take_rest xs k) e)
-
 -- the names behind the first, copied to the front
 pub front_moved : (xs now : List ℕ) → now ≡ copy_within xs 1 (length xs) 0 → take (length xs - 1) now ≡ drop 1 xs
 front_moved xs now e =
@@ -44,11 +35,20 @@ front_moved xs now e =
     ap (λ z. take z now) (sym (zero-add m)) ∙ ap (take (0 + m)) e ∙ take-paste xs 0 (drop 1 xs) m zero-le (omega (arith, length-drop 1 xs))
     ∙ take_all m (drop 1 xs) (omega (arith, length-drop 1 xs))
 
+-- the names behind place k, copied to the front by one
+pub gap_closed : (k : ℕ) (xs tail : List ℕ) → k < length xs → tail ≡ copy_within (take (length xs - k) (drop k xs)) 1 (length (take (length xs - k) (drop k xs))) 0
+    → take (length xs - 1) (put_mid k (length xs - k) xs tail) ≡ without k xs
+gap_closed k xs tail h e =
+    let r = take_rest xs k in
+    let p : drop (length xs - k) (drop k xs) ≡ [] = drop_all (length xs - k) (drop k xs) (omega (arith, length-drop k xs)) in
+    ap (λ z. take (length xs - 1) (take k xs ++ z)) (ap (λ z. tail ++ z) p ∙ append-nil tail)
+    ∙ closed k xs tail h (subst (λ z. take (length z - 1) tail ≡ drop 1 z) r (front_moved (take (length xs - k) (drop k xs)) tail e))
+
 -- the names before place k, copied back by one
-pub gap_opened : (k : ℕ) (xs now : List ℕ) → k < length xs → now ≡ copy_within xs 0 k 1 → take (length xs - 1) (drop 1 now) ≡ without k xs
-gap_opened k [] now h e = absurd (omega arith)
-gap_opened k (x ∷ xs) now h e =
+pub gap_opened : (k : ℕ) (xs now : List ℕ) → k < length xs → now ≡ copy_within xs 0 k 1 → length now ≡ length xs → take (length now - 1) (drop 1 now) ≡ without k xs
+gap_opened k [] now h e l = absurd (omega arith)
+gap_opened k (x ∷ xs) now h e l =
     let z : k - 0 ≡ k = omega arith in
     let w : drop 1 now ≡ without k (x ∷ xs) =
     ap (drop 1) e ∙ ap (λ j. take j (x ∷ xs) ++ drop (1 + j) (x ∷ xs)) z ∙ ap (λ j. take k (x ∷ xs) ++ drop j (x ∷ xs)) (one-add k) ∙ sym (without_split k (x ∷ xs)) in
-    ap (take (suc (length xs) - 1)) w ∙ take_all (suc (length xs) - 1) (without k (x ∷ xs)) (omega (arith, length_without k (x ∷ xs) h))
+    ap (take (length now - 1)) w ∙ take_all (length now - 1) (without k (x ∷ xs)) (omega (arith, length_without k (x ∷ xs) h))

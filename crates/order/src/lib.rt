@@ -54,25 +54,26 @@ fn draw_rest(order: &mut [u16], left: &mut [u16], reader: &mut BitReader<'_>) ->
         return Some(());
     }
     let k = reader.draw_below(n as u16)?;
-    let (name, first) = take_out(left, k as usize);
-    draw_rest(&mut order[1..], &mut left[first..first + n - 1], reader)?;
+    let (name, left) = take_out(left, k as usize);
+    draw_rest(&mut order[1..], left, reader)?;
     order[0] = name;
     Some(())
 }
 
-// Takes out name k. The names on the shorter side of it move, so that the others stand in their order from the place told on, 1 or 0.
-fn take_out(names: &mut [u16], k: usize) -> (u16, usize)
+// Takes out name k, and gives the others in their order. The names on the shorter side of it move.
+fn take_out(names: &mut [u16], k: usize) -> (u16, &mut [u16])
     requires { k < length names.old }
     ensures is { result.0 ≡ slice_index names.old k }
-    ensures first { result.1 ≡ (if nat_lt k (length names.old / 2) then 1 else 0) }
-    ensures after { take (length names.old - 1) (drop result.1 names.new) ≡ without k names.old }
+    ensures left { result.1.now ≡ without k names.old }
+    ensures fewer { length result.1.now ≡ length names.old - 1 }
 {
     let name = names[k];
     if k < names.len() / 2 {
         names.copy_within(..k, 1);
-        (name, 1)
+        (name, &mut names[1..])
     } else {
+        let last = names.len() - 1;
         names[k..].copy_within(1.., 0);
-        (name, 0)
+        (name, &mut names[..last])
     }
 }

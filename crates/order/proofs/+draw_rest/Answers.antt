@@ -1,4 +1,4 @@
-use Rattle.std.proofs.Common.{sym, ◌≡◌, ◌+◌, ◌-◌, length, take, drop, Some, None, ap, ◌∙◌, subst, arith}
+use Rattle.std.proofs.Common.{sym, ◌-◌, length, take, drop, Some, None, ap, ◌∙◌, subst, arith}
 use Rattle.order.proofs.+draw_rest.Goals as goal
 use Rattle.order.proofs.Rests.{Answer, no_names, first_out, later_out, later_drawn}
 use Rattle.order.specs.Drawings.{drawing_of}
@@ -25,15 +25,11 @@ returns-in_err-draw_rest t c =
     let r = c.args.reader.now in
     let next = c.draw_below.new.self.at in
     let n = length c.args.order.now in
-    let first = c.take_out-name.result.1 in
-    let row = c.take_out-name.new.names in
-    let left = take (first + n - 1 - first) (drop first row) in
-    let e : first + n - 1 - first ≡ length c.args.left.now - 1 = omega arith in
-    let is_left = ap (λ j. take j (drop first row)) e ∙ c.take_out-name.ensures.after in
+    let left = c.take_out-name.result.1.now in
     let h = c.in_err-draw_rest.ensures in
     let d = subst (λ b. Answer (drawing_of left (drop next (bits b.now))) next (take (n - 1) (drop 1 c.args.order.now)) None c.draw_rest.new.order) c.in_ok-k.ensures.same (h.is, h.after) in
     let a = later_out (bits r.bytes.now) c.args.left.now left c.args.order.now r.at c.in_ok-k.k next
-    c.requires.each (omega arith) (omega (arith, length_bits r.bytes.now, r.placed)) c.in_ok-k.ensures.is is_left
+    c.requires.each (omega arith) (omega (arith, length_bits r.bytes.now, r.placed)) c.in_ok-k.ensures.is c.take_out-name.ensures.left
     c.draw_rest.new.order d in
     record { is = ap (option_map _) c.from_residual-in_err-draw_rest.ensures ∙ a.0; after = a.1 }
 
@@ -42,15 +38,11 @@ returns t c =
     let r = c.args.reader.now in
     let next = c.draw_below.new.self.at in
     let n = length c.args.order.now in
-    let first = c.take_out-name.result.1 in
-    let row = c.take_out-name.new.names in
-    let left = take (first + n - 1 - first) (drop first row) in
-    let e : first + n - 1 - first ≡ length c.args.left.now - 1 = omega arith in
-    let is_left = ap (λ j. take j (drop first row)) e ∙ c.take_out-name.ensures.after in
+    let left = c.take_out-name.result.1.now in
     let h = c.in_ok-draw_rest.ensures in
     let end = c.draw_rest.new.reader.at in
     let d = subst (λ b. Answer (drawing_of left (drop next (bits b.now))) next (take (n - 1) (drop 1 c.args.order.now)) (Some end) c.draw_rest.new.order) c.in_ok-k.ensures.same (h.is, h.after) in
     let a = later_drawn (bits r.bytes.now) c.args.left.now left c.args.order.now r.at c.in_ok-k.k next
-    c.requires.each (omega arith) (omega (arith, length_bits r.bytes.now, r.placed)) c.in_ok-k.ensures.is is_left
+    c.requires.each (omega arith) (omega (arith, length_bits r.bytes.now, r.placed)) c.in_ok-k.ensures.is c.take_out-name.ensures.left
     c.draw_rest.new.order end c.take_out-name.result.0 c.take_out-name.ensures.is d in
     record { is = a.0; after = a.1 }
