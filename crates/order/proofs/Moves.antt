@@ -1,10 +1,11 @@
 -- A name taken out of a row in place. Assumes nothing.
 use borrow.Rule.Slice.PartMut.{put_mid}
-use Rattle.std.proofs.Common.{zero-le, zero-add, one-add, ◌≡◌, ℕ, zero, suc, ◌+◌, ◌-◌, ◌<◌, ◌≤◌, List, [], ◌∷◌, ◌++◌, length, take, drop, sym, refl, ap, ◌∙◌, subst, append-nil, add-one, arith}
+use Rattle.std.proofs.Common.{zero-le, zero-add, one-add, ◌≡◌, ℕ, zero, suc, ◌+◌, ◌-◌, ◌<◌, List, [], ◌∷◌, ◌++◌, length, take, drop, sym, refl, ap, ◌∙◌, subst, append-nil, add-one, arith}
 use Rattle.order.proofs.Names.{length_without}
+use Rattle.std.proofs.Math.Seq.{take-append-add}
 use Rattle.order.specs.Orders.{without}
 use Rattle.std.specs.List.{copy_within}
-use Rattle.std.proofs.lemmas.List.{length-drop, drop-drop, drop_all, take_rest, take_all}
+use Rattle.std.proofs.lemmas.List.{length-take-le, length-drop, drop-drop, drop_all, take_rest, take_all}
 use Rattle.std.proofs.lemmas.List.Edits.{take-paste}
 
 -- a list without its element k: what stands before it and what stands behind it
@@ -15,17 +16,12 @@ without_split (suc k) [] = refl
 without_split zero (x ∷ xs) = refl
 without_split (suc k) (x ∷ xs) = ap (λ z. x ∷ z) (without_split k xs)
 
-take_joined : (k m : ℕ) (xs ys : List ℕ) → k ≤ length xs → take (k + m) (take k xs ++ ys) ≡ take k xs ++ take m ys
-take_joined zero m xs ys h = let e : 0 + m ≡ m = omega arith in rw e refl
-take_joined (suc k) m [] ys h = absurd (omega arith)
-take_joined (suc k) m (x ∷ xs) ys h = let e : suc k + m ≡ suc (k + m) = omega arith in rw e (ap (λ z. x ∷ z) (take_joined k m xs ys (omega arith)))
-
 closed : (k : ℕ) (xs tail : List ℕ) → k < length xs → take (length (drop k xs) - 1) tail ≡ drop 1 (drop k xs)
     → take (length xs - 1) (take k xs ++ tail) ≡ without k xs
 closed k xs tail h e =
     let m = length (drop k xs) - 1 in
-    let p : length xs - 1 ≡ k + m = omega (arith, length-drop k xs) in
-    ap (λ j. take j (take k xs ++ tail)) p ∙ take_joined k m xs tail (omega arith)
+    let p : length xs - 1 ≡ length (take k xs) + m = omega (arith, length-drop k xs, length-take-le k xs (omega arith)) in
+    ap (λ j. take j (take k xs ++ tail)) p ∙ take-append-add (take k xs) tail m
     ∙ ap (λ z. take k xs ++ z) (e ∙ drop-drop 1 k xs ∙ ap (λ j. drop j xs) (add-one k)) ∙ sym (without_split k xs)
 
 -- the names behind the first, copied to the front
