@@ -1,11 +1,12 @@
-use Rattle.std.proofs.Common.{refl, rules}
+use Rattle.std.proofs.Common.{[], refl, rules}
 use Rattle.step_file.proofs.Walk.{once, shorter}
 use Rattle.step_file.proofs.StepsIterator.next.Goals as goal
 
 pub returns-in-Ok-None-clause-steps : goal.returns-in-Ok-None-clause-steps
 returns-in-Ok-None-clause-steps c =
     let none = rw c.in-Ok-None.field-0-is at c.in-Ok-None.ensures in
-    rw (← none) at (once c.args.self.now.rest.now)
+    let file = rw (← none) at (once c.args.self.now.rest.now) in
+    (file.0, file.1, refl)
 
 pub returns-in-Ok-Some-clause-steps : goal.returns-in-Ok-Some-clause-steps
 returns-in-Ok-Some-clause-steps c =
@@ -19,4 +20,7 @@ returns-in-Ok-Some-clause-goes c =
     search rules
 
 pub returns-in-Err-clause-steps : goal.returns-in-Err-clause-steps
-returns-in-Err-clause-steps c = let file = rw (← c.in-Err.ensures) at (once c.args.self.now.rest.now) in (file.0, file.1, refl)
+returns-in-Err-clause-steps c =
+    let file = rw (← c.in-Err.ensures) at (once c.args.self.now.rest.now) in
+    let none = once [] in
+    (file.0, file.1, none.0, none.1)
