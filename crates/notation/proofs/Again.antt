@@ -1,16 +1,19 @@
 -- Digits and numbers that are written are read again. Assumes nothing.
-use Rattle.std.proofs.Common.{◌≡◌, ℕ, zero, suc, ◌+◌, ◌-◌, ◌*◌, ◌/◌, ◌%◌, ◌^◌, ◌<◌, ◌≤◌, min, Bool, true, false, cond, eqb, ltb, List, [], ◌∷◌, ◌++◌, length, get_or, take, drop, decimal, sym, refl, ap, ◌∙◌, arith, lit<}
+use Rattle.std.proofs.Common.{◌≡◌, ℕ, zero, suc, ◌+◌, ◌-◌, ◌*◌, ◌/◌, ◌%◌, ◌^◌, ◌<◌, ◌≤◌, Bool, true, false, cond, not, eqb, List, [], ◌∷◌, ◌++◌, length, Some, None, Option, get_or, take, drop, decimal, sym, refl, ap, ◌∙◌, arith, lit<}
 use Rattle.std.proofs.lemmas.Fmt.{decimal_by_steps, decimal_nonempty}
-use Rattle.std.proofs.lemmas.List.{get_or-drop}
-use Rattle.std.proofs.lemmas.Bool.{and_from, eq-eqb, ne_eqb, lt-ltb, le-ltb}
+use Rattle.std.proofs.lemmas.List.{get_or-drop, drop-drop, take_at, drop_at}
+use Rattle.std.proofs.lemmas.Bool.{and_from, eq-eqb, ne_eqb}
 use Rattle.std.proofs.lemmas.Bool.Decides.{nat_tests}
 use Rattle.names_text.specs.Laws.{NoLess}
 use Rattle.output.specs.Hex.{hex, hex_digit}
-use Rattle.notation.specs.Hex.{is_digit, digit_value, all_digits, are_pairs, bytes_of}
+use Rattle.std.specs.Prelude.{option_and_then}
+use Rattle.std.specs.Char.{is_ascii_hexdigit}
+use Rattle.std.specs.List.{position_or_len, before_first, after_first}
+use Rattle.notation.specs.Hex.{digit_value, all_digits, are_pairs, bytes_of}
 use Rattle.notation.specs.Laws.{AreBytes}
-use Rattle.notation.specs.Lines.{lines, place, without_return, onto_first}
+use Rattle.notation.specs.Lines.{lines, without_return, onto_first}
 use Rattle.notation.specs.Numbers.{digit_more, number_from, number}
-use Rattle.notation.proofs.Walks.{number_some}
+use Rattle.notation.proofs.Digits.{number_some}
 
 -- parts of bytes are bytes
 pub bytes_take : (n : ℕ) (xs : List ℕ) → AreBytes xs → AreBytes (take n xs)
@@ -23,7 +26,7 @@ pub bytes_drop : (n : ℕ) (xs : List ℕ) → AreBytes xs → AreBytes (drop n 
 bytes_drop n xs h i = omega (arith, get_or-drop n xs i 0, h (n + i))
 
 -- one digit
-digit_again : (d : ℕ) → d < 16 → (is_digit (hex_digit d) ≡ true) × (digit_value (hex_digit d) ≡ d)
+digit_again : (d : ℕ) → d < 16 → (is_ascii_hexdigit (hex_digit d) ≡ true) × (digit_value (hex_digit d) ≡ d)
 digit_again d l = (grind (arith, nat_tests), grind (arith, nat_tests))
 
 pub hex_length : (x : List ℕ) → length (hex x) ≡ 2 * length x
@@ -32,7 +35,7 @@ hex_length [] = refl
 hex_length (b ∷ x) = omega (arith, hex_length x)
 
 pub hex_digits : (x : List ℕ) → AreBytes x → all_digits (hex x) ≡ true
-unfolding hex all_digits
+unfolding hex
 hex_digits [] h = refl
 hex_digits (b ∷ x) h =
     let l : b < 256 = h 0 in
@@ -72,34 +75,44 @@ pub decimal_high : (n : ℕ) → n < 2 ^ 64 → NoLess 48 (decimal n)
 decimal_high n l = decimal_by_steps (λ n ds. NoLess 48 ds) (λ n k. (omega arith, tt)) (λ n ds k h. less_append 48 ds ((48 + n % 10) ∷ []) h (omega arith, tt)) n l
 
 -- numbers
-number_push : (n : ℕ) (ds : List ℕ) (d : ℕ) → number_from n (ds ++ (d ∷ [])) ≡ digit_more (number_from n ds) d
+some_same : (o : Option ℕ) → option_and_then (λ m. Some m) o ≡ o
+some_same None = refl
+some_same (Some m) = refl
+
+number_push : (n : ℕ) (ds : List ℕ) (d : ℕ) → number_from n (ds ++ (d ∷ [])) ≡ option_and_then (λ m. digit_more m d) (number_from n ds)
 unfolding number_from
-number_push n [] d = refl
-number_push n (e ∷ ds) d = number_push (digit_more n e) ds d
+number_push n [] d = some_same (digit_more n d)
+number_push n (e ∷ ds) d = go (digit_more n e) (λ m. number_push m ds d)
+  where
+    go : (o : Option ℕ) → ((m : ℕ) → number_from m (ds ++ (d ∷ [])) ≡ option_and_then (λ m. digit_more m d) (number_from m ds))
+        → option_and_then (λ m. number_from m (ds ++ (d ∷ []))) o ≡ option_and_then (λ m. digit_more m d) (option_and_then (λ m. number_from m ds) o)
+    go None h = refl
+    go (Some m) h = h m
 
-digit_more_is : (m d : ℕ) → d < 10 → 10 * m + d < 65536 → digit_more m (48 + d) ≡ 10 * m + d
-digit_more_is m d l h =
-    let s : ltb (48 + d) 48 ≡ false = le-ltb _ _ (omega arith) in
-    let t : ltb (48 + d) 58 ≡ true = lt-ltb _ _ (omega arith) in
-    ap (λ (b : Bool). cond b 65536 (cond (ltb (48 + d) 58) (min 65536 (10 * m + (48 + d - 48))) 65536)) s
-    ∙ (ap (λ (b : Bool). cond b (min 65536 (10 * m + (48 + d - 48))) 65536) t ∙ omega arith)
+digit_more_is : (m d : ℕ) → d < 10 → 10 * m + d < 65536 → digit_more m (48 + d) ≡ Some (10 * m + d)
+digit_more_is m d l h = grind (arith, nat_tests)
 
-number_from_decimal : (n : ℕ) → n < 2 ^ 64 → n < 65536 → number_from 0 (decimal n) ≡ n
+number_from_decimal : (n : ℕ) → n < 2 ^ 64 → n < 65536 → number_from 0 (decimal n) ≡ Some n
 unfolding number_from
 number_from_decimal n l =
-    decimal_by_steps (λ n ds. n < 65536 → number_from 0 ds ≡ n) (λ n k h. digit_more_is 0 n k (omega arith) ∙ omega arith)
-    (λ n ds k h s. number_push 0 ds (48 + n % 10) ∙ (ap (λ (m : ℕ). digit_more m (48 + n % 10)) (h (omega arith)) ∙ (digit_more_is (n / 10) (n % 10) (omega arith) (omega arith) ∙ omega arith))) n l
+    decimal_by_steps (λ n ds. n < 65536 → number_from 0 ds ≡ Some n) (λ n k h. ap (option_and_then (λ m. Some m)) (digit_more_is 0 n k (omega arith)) ∙ ap Some (omega arith))
+    (λ n ds k h s. number_push 0 ds (48 + n % 10) ∙ (ap (option_and_then (λ m. digit_more m (48 + n % 10))) (h (omega arith)) ∙ (digit_more_is (n / 10) (n % 10) (omega arith) (omega arith) ∙ ap Some (omega arith)))) n l
 
-pub number_decimal : (n : ℕ) → n < 65536 → number (decimal n) ≡ n
-number_decimal n l = sym (number_some (decimal n) (λ e. omega (arith, decimal_nonempty n (omega arith)))) ∙ number_from_decimal n (omega arith) l
+pub number_decimal : (n : ℕ) → n < 65536 → number (decimal n) ≡ Some n
+number_decimal n l = sym (number_some (decimal n) (omega (arith, decimal_nonempty n (omega arith)))) ∙ number_from_decimal n (omega arith) l
 
 -- a byte that stands behind greater ones
-pub place_behind : (s : ℕ) (xs ys : List ℕ) → NoLess (suc s) xs → place s (xs ++ s ∷ ys) ≡ length xs
-unfolding place
+place_behind : (s : ℕ) (xs ys : List ℕ) → NoLess (suc s) xs → position_or_len (λ b. eqb b s) (xs ++ s ∷ ys) ≡ length xs
 place_behind s [] ys h = let t : eqb s s ≡ true = eq-eqb s s refl in simp t
 place_behind s (x ∷ xs) ys h =
     let t : eqb x s ≡ false = ne_eqb x s (λ e. omega (arith, h.0)) in
-    ap (λ (b : Bool). cond b 0 (place s (xs ++ s ∷ ys) + 1)) t ∙ omega (arith, place_behind s xs ys h.1)
+    ap (λ (b : Bool). cond (not b) (1 + position_or_len (λ b. eqb b s) (xs ++ s ∷ ys)) 0) t ∙ omega (arith, place_behind s xs ys h.1)
+
+pub split_behind : (s : ℕ) (xs ys : List ℕ) → NoLess (suc s) xs
+    → (before_first (λ b. eqb b s) (xs ++ s ∷ ys) ≡ xs) × (after_first (λ b. eqb b s) (xs ++ s ∷ ys) ≡ ys)
+split_behind s xs ys h =
+    let place = place_behind s xs ys h in
+    (ap (λ k. take k (xs ++ s ∷ ys)) place ∙ take_at xs (s ∷ ys) (length xs) refl, ap (λ k. drop (k + 1) (xs ++ s ∷ ys)) place ∙ (sym (drop-drop 1 (length xs) (xs ++ s ∷ ys)) ∙ ap (drop 1) (drop_at xs (s ∷ ys) (length xs) refl)))
 
 -- a line with no byte below 32
 pub line_behind : (l rest : List ℕ) → NoLess 32 l → lines (l ++ 10 ∷ rest) ≡ l ∷ lines rest

@@ -1,10 +1,8 @@
-pub mod Places
-pub mod Showing
-pub mod Walks
-pub mod Texts
-pub mod Named
+pub mod Pairs
+pub mod Parts
+pub mod Digits
+pub mod Turns
+pub mod WholeRead
 pub mod Again
 pub mod Readback
 pub mod Whole
-pub mod Ends
-pub mod Steps

@@ -1,17 +1,15 @@
 -- Hexadecimal digits read, of either case. Assumes nothing.
-use Rattle.std.specs.Prelude.{ℕ, ◌+◌, ◌-◌, ◌*◌, ◌%◌, min, Bool, true, false, cond, ◌&&◌, List, [], ◌∷◌, length, ◌==◌, nat_lt}
+use Rattle.std.specs.Prelude.{ℕ, ◌+◌, ◌*◌, ◌%◌, Bool, cond, ◌&&◌, List, [], ◌∷◌, length, ◌==◌, nat_lt}
+use Rattle.std.specs.Char.{digit_value as value_of, is_ascii_hexdigit}
+use Rattle.std.specs.List.{list_all}
 
-abbrev pub is_digit : ℕ → Bool
-is_digit c = cond (nat_lt c 48) false (cond (nat_lt c 58) true (cond (nat_lt c 65) false (cond (nat_lt c 71) true (cond (nat_lt c 97) false (nat_lt c 103)))))
-
--- the value of a digit; any other byte has that of a digit near it
+-- the value of a digit; any other byte counts as 0
 abbrev pub digit_value : ℕ → ℕ
-digit_value c = cond (nat_lt c 65) (min (c - 48) 9) (cond (nat_lt c 97) (min (c - 55) 15) (min (c - 87) 15))
+digit_value c = cond (nat_lt (value_of c) 16) (value_of c) 0
 
 -- nothing but digits
-unfoldable pub all_digits : List ℕ → Bool
-all_digits [] = true
-all_digits (c ∷ cs) = is_digit c && all_digits cs
+abbrev pub all_digits : List ℕ → Bool
+all_digits ds = list_all is_ascii_hexdigit ds
 
 -- digits that make whole bytes
 abbrev pub are_pairs : List ℕ → Bool

@@ -1,5 +1,6 @@
 -- The lines of a text. Assumes nothing.
-use Rattle.std.specs.Prelude.{ℕ, ◌+◌, ◌-◌, Bool, true, cond, ◌&&◌, ◌||◌, List, [], ◌∷◌, length, take, ◌==◌, slice_index}
+use Rattle.std.specs.Prelude.{ℕ, ◌-◌, Bool, cond, ◌||◌, List, [], ◌∷◌, length, take, ◌==◌, slice_index}
+use Rattle.std.specs.List.{list_all}
 
 -- a byte put before the first line
 abbrev pub onto_first : ℕ → List (List ℕ) → List (List ℕ)
@@ -11,11 +12,6 @@ unfoldable pub lines : List ℕ → List (List ℕ)
 lines [] = []
 lines (b ∷ bs) = cond (b == 10) ([] ∷ lines bs) (onto_first b (lines bs))
 
--- the place of the first byte s, or of the end
-unfoldable pub place : ℕ → List ℕ → ℕ
-place s [] = 0
-place s (b ∷ bs) = cond (b == s) 0 (place s bs + 1)
-
 -- a carriage return at the end of a line is passed over
 abbrev pub without_return : List ℕ → List ℕ
 without_return line = cond (slice_index line (length line - 1) == 13) (take (length line - 1) line) line
@@ -24,6 +20,5 @@ abbrev pub is_space : ℕ → Bool
 is_space b = b == 32 || b == 9
 
 -- nothing but spaces and tabs
-unfoldable pub is_blank : List ℕ → Bool
-is_blank [] = true
-is_blank (b ∷ bs) = is_space b && is_blank bs
+abbrev pub is_blank : List ℕ → Bool
+is_blank line = list_all is_space line

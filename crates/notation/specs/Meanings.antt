@@ -1,15 +1,18 @@
 -- What a line means. Assumes nothing.
-use Rattle.std.specs.Prelude.{ℕ, ◌/◌, ◌%◌, cond, List, [], ◌∷◌, length, take, drop, codes, ◌==◌, nat_lt}
+use Rattle.std.specs.Prelude.{ℕ, ◌/◌, ◌%◌, cond, ◌||◌, ◌&&◌, List, [], ◌∷◌, length, drop, codes, Some, None, Option, Ok, Err, Result, ◌==◌, nat_lt}
+use Rattle.std.specs.List.{before_first, after_first}
 use Rattle.notation.specs.declared.faults.Fault.{Fault}
 use Rattle.notation.specs.declared.faults.Fault.TheVariants.{NoForm, NoName, NoDigits, NoSeal, NoList, NoParty, NoOpening, NoKind}
 use Rattle.notation.specs.declared.forms.Form.{Form}
-use Rattle.notation.specs.declared.forms.Form.TheVariants.{Entry, EntryHex, CloseList, Seal, CloseSeals, Opening, Close, StepHex, Unknown}
+use Rattle.notation.specs.declared.forms.Form.TheVariants.{Entry, EntryHex, CloseList, Seal, CloseSeals, Opening, Close, StepHex}
 use Rattle.notation.specs.declared.parsed.Parsed.{Parsed}
-use Rattle.notation.specs.declared.parsed.Parsed.TheVariants.{Nothing, Bytes, Digits, List as Listed, Opening as Opened, Contents, File, Bad}
+use Rattle.notation.specs.declared.parsed.Parsed.TheVariants.{Nothing, Step, File}
+use Rattle.notation.specs.declared.step.Told.{Told}
 use Rattle.notation.specs.Forms.{words, begins, form_of}
 use Rattle.notation.specs.Hex.{are_pairs, all_digits, bytes_of}
-use Rattle.notation.specs.Lines.{is_blank, place}
+use Rattle.notation.specs.Lines.{is_blank}
 use Rattle.notation.specs.Numbers.{number}
+use Rattle.notation.specs.Steps.{step_told}
 
 -- nothing; a step by its kind and its bytes; an opening of a party with the path of the file that has its bytes; no line
 -- of this notation
@@ -20,15 +23,15 @@ pub data Meaning : Type 0 where
   bad : Fault → Meaning
 
 -- what a line was found to be, as its meaning
-abbrev pub meant : Parsed → Meaning
-meant Nothing = nothing
-meant (Bytes kind bytes) = step kind bytes.now
-meant (Digits kind digits) = step kind (bytes_of digits.now)
-meant (Listed n) = step 2 (n % 256 ∷ n / 256 ∷ [])
-meant (Opened party digits) = step 5 (party ∷ bytes_of digits.now)
-meant (Contents party bytes) = step 5 (party ∷ bytes.now)
-meant (File party path) = file party path.now
-meant (Bad why) = bad why
+abbrev pub meant : Result Parsed Fault → Meaning
+meant (Ok Nothing) = nothing
+meant (Ok (Step told)) = step told.kind (step_told told)
+meant (Ok (File party path)) = file party path.now
+meant (Err why) = bad why
+
+abbrev pub told : Result Told Fault → Meaning
+told (Ok t) = step t.kind (step_told t)
+told (Err why) = bad why
 
 -- the digits of a step of a kind
 abbrev pub hex_step : ℕ → List ℕ → Meaning
@@ -43,12 +46,13 @@ abbrev pub entry_hex : List ℕ → Meaning
 entry_hex ds = cond (length ds == 0) (bad NoName) (hex_step 1 ds)
 
 -- close list L, as two bytes, low byte first
-abbrev pub close_list : ℕ → Meaning
-close_list n = cond (nat_lt n 65536) (step 2 (n % 256 ∷ n / 256 ∷ [])) (bad NoList)
+abbrev pub close_list : Option ℕ → Meaning
+close_list None = bad NoList
+close_list (Some n) = step 2 (n % 256 ∷ n / 256 ∷ [])
 
 -- seal HEX
 abbrev pub seal : List ℕ → Meaning
-seal ds = cond (length ds == 64) (cond (all_digits ds) (step 3 (bytes_of ds)) (bad NoSeal)) (bad NoSeal)
+seal ds = cond (length ds == 64 && all_digits ds) (step 3 (bytes_of ds)) (bad NoSeal)
 
 -- a line of words alone has nothing behind them
 abbrev pub alone : ℕ → List ℕ → Meaning
@@ -59,8 +63,9 @@ abbrev pub opened : ℕ → List ℕ → Meaning
 opened party word = cond (all_digits word) (cond (are_pairs word) (step 5 (party ∷ bytes_of word)) (bad NoDigits)) (file party word)
 
 -- opening P HEX
-abbrev pub opening : ℕ → List ℕ → Meaning
-opening party word = cond (nat_lt party 256) (cond (length word == 0) (bad NoOpening) (opened party word)) (bad NoParty)
+abbrev pub opening : Option ℕ → List ℕ → Meaning
+opening None word = bad NoParty
+opening (Some party) word = cond (nat_lt party 256) (cond (length word == 0) (bad NoOpening) (opened party word)) (bad NoParty)
 
 abbrev pub with_kind : List ℕ → Meaning
 with_kind [] = bad NoKind
@@ -77,14 +82,14 @@ rest_read EntryHex rest = entry_hex rest
 rest_read CloseList rest = close_list (number rest)
 rest_read Seal rest = seal rest
 rest_read CloseSeals rest = alone 4 rest
-rest_read Opening rest = opening (number (take (place 32 rest) rest)) (drop 1 (drop (place 32 rest) rest))
+rest_read Opening rest = opening (number (before_first (λ b. b == 32) rest)) (after_first (λ b. b == 32) rest)
 rest_read Close rest = alone 6 rest
 rest_read StepHex rest = any_step rest
-rest_read Unknown rest = bad NoForm
+
+abbrev pub form_read : Option Form → List ℕ → Meaning
+form_read None line = bad NoForm
+form_read (Some form) line = rest_read form (drop (length (words form)) line)
 
 -- blank lines and those that begin with # mean nothing
 abbrev pub meaning : List ℕ → Meaning
-meaning line =
-    cond (is_blank line) nothing
-    (cond (begins (codes "#") line) nothing
-    (rest_read (form_of line) (drop (length (words (form_of line))) line)))
+meaning line = cond (is_blank line || begins (codes "#") line) nothing (form_read (form_of line) line)

@@ -1,15 +1,16 @@
 -- Decimal numbers read. Assumes nothing.
-use Rattle.std.specs.Prelude.{ℕ, ◌+◌, ◌-◌, ◌*◌, min, cond, List, [], ◌∷◌, nat_lt}
+use Rattle.std.specs.Prelude.{ℕ, ◌+◌, ◌-◌, ◌*◌, cond, ◌&&◌, List, [], ◌∷◌, Some, None, Option, option_and_then, nat_lt}
+use Rattle.std.specs.Char.{is_ascii_digit}
 
--- one digit more; 65536 stands for all that is no number below it, and stays
-abbrev pub digit_more : ℕ → ℕ → ℕ
-digit_more n c = cond (nat_lt c 48) 65536 (cond (nat_lt c 58) (min 65536 (10 * n + (c - 48))) 65536)
+-- one digit more, if the number stays below 65536
+abbrev pub digit_more : ℕ → ℕ → Option ℕ
+digit_more n c = cond (is_ascii_digit c && nat_lt (10 * n + (c - 48)) 65536) (Some (10 * n + (c - 48))) None
 
-unfoldable pub number_from : ℕ → List ℕ → ℕ
-number_from n [] = n
-number_from n (c ∷ cs) = number_from (digit_more n c) cs
+unfoldable pub number_from : ℕ → List ℕ → Option ℕ
+number_from n [] = Some n
+number_from n (c ∷ cs) = option_and_then (λ m. number_from m cs) (digit_more n c)
 
--- the number that the digits write, at least one of them
-abbrev pub number : List ℕ → ℕ
-number [] = 65536
+-- the number below 65536 that the digits write, at least one of them
+abbrev pub number : List ℕ → Option ℕ
+number [] = None
 number (c ∷ cs) = number_from 0 (c ∷ cs)

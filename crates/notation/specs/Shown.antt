@@ -1,12 +1,15 @@
 -- A file of steps as text. Assumes nothing.
-use Rattle.std.specs.Prelude.{◌≡◌, ℕ, ◌+◌, ◌*◌, true, false, cond, List, [], ◌∷◌, ◌++◌, length, drop, Some, None, codes, decimal, Option, ◌==◌, nat_lt, slice_index}
+use Rattle.std.specs.Prelude.{◌≡◌, ℕ, ◌+◌, ◌*◌, true, false, cond, List, [], ◌∷◌, ◌++◌, length, drop, Ok, Err, Result, codes, decimal, ◌==◌, nat_lt, slice_index}
 use Rattle.std.specs.List.{flat_map}
 use Rattle.names_text.specs.Text.{is_text}
 use Rattle.output.specs.Hex.{hex}
 use Rattle.output.specs.Output.{put}
+use Rattle.output.specs.Writes.{Writes}
+use Rattle.output.specs.declared.Output.{Output}
+use Rattle.step_file.specs.declared.CutShort.{CutShort}
 use Rattle.step_file.specs.File.{file_steps, file_cut}
 use Rattle.notation.specs.declared.forms.Form.{Form}
-use Rattle.notation.specs.declared.forms.Form.TheVariants.{Entry, EntryHex, CloseList, Seal, CloseSeals, Opening, Close, StepHex, Unknown}
+use Rattle.notation.specs.declared.forms.Form.TheVariants.{Entry, EntryHex, CloseList, Seal, CloseSeals, Opening, Close, StepHex}
 use Rattle.notation.specs.Forms.{words}
 
 -- an entry is shown as text if it is, and by its bytes if it has some
@@ -33,7 +36,6 @@ rest_shown CloseSeals kind x = []
 rest_shown Opening kind x = decimal (slice_index x 0) ++ (codes " " ++ hex (drop 1 x))
 rest_shown Close kind x = []
 rest_shown StepHex kind x = hex (kind ∷ x)
-rest_shown Unknown kind x = []
 
 -- a line a step
 abbrev pub line_shown : ℕ × List ℕ → List ℕ
@@ -43,10 +45,10 @@ abbrev pub text_of : List ℕ → List ℕ
 text_of file = flat_map line_shown (file_steps file)
 
 -- the text in memory and the place behind it; nothing where the file ends inside a step
-abbrev pub shown_into : List ℕ → List ℕ → List ℕ × Option ℕ
-shown_into m file = cond (file_cut file) (m, None) ((put (m, 0) (text_of file)).0, Some (put (m, 0) (text_of file)).1)
+abbrev pub shown_into : List ℕ → List ℕ → List ℕ × Result ℕ CutShort
+shown_into m file = cond (file_cut file) (m, Err (record {})) ((put (m, 0) (text_of file)).0, Ok (put (m, 0) (text_of file)).1)
 
 -- one pass over a file: where it ends inside a step, only that is told
-abbrev pub Passed : List ℕ → List ℕ → List ℕ → Option ℕ → Type 0
-Passed file m n (Some at) = (file_cut file ≡ false) × ((n, at) ≡ put (m, 0) (text_of file))
-Passed file m n None = file_cut file ≡ true
+abbrev pub Shows : List ℕ → Output → Output → Result (Unit {0}) CutShort → Type 0
+Shows file old new (Ok u) = (file_cut file ≡ false) × Writes old new (text_of file)
+Shows file old new (Err e) = (file_cut file ≡ true) × (new.memory.ghost_name ≡ old.memory.ghost_name)

@@ -1,13 +1,15 @@
 // What can be wrong with a line.
-ghost use Rattle.std.specs.Prelude.{◌≡◌};
+ghost use Rattle.std.specs.Prelude.{◌≡◌, Some};
 ghost use Rattle.notation.specs.Faults.{number_of, sentence, bad_line};
 ghost use Rattle.output.specs.Output.{put};
 
-use output::{put, put_decimal};
+use output::Output;
+use std::error::Error;
+use std::fmt;
 
 // No form of a step; a name, digits, a seal, the number of a list or of a party, the bytes of an opening or the kind of a
 // step that are not there or not as they should be; a step or a file that is too long; a file that is not there.
-#[derive(Clone, Copy)]
+#[derive(Clone, Copy, Debug, PartialEq, Eq)]
 pub enum Fault {
     NoForm,
     NoName,
@@ -41,39 +43,61 @@ impl Fault {
             Fault::LongFile => 11,
         }
     }
+
+    fn words(self) -> &'static str
+        ensures { result.now ≡ sentence self }
+    {
+        match self {
+            Fault::NoForm => "this is no step",
+            Fault::NoName => "an entry has a name",
+            Fault::NoDigits => "bytes are pairs of hex digits",
+            Fault::NoSeal => "a seal has 64 hex digits",
+            Fault::NoList => "a list is closed with a number from 0 to 65535",
+            Fault::NoParty => "a party has a number from 0 to 255",
+            Fault::NoOpening => "an opening has bytes",
+            Fault::NoKind => "a step has a kind",
+            Fault::LongStep => "a step has at most 65535 bytes",
+            Fault::NoFile => "the file is missing",
+            Fault::LongFile => "the file has more than 65534 bytes",
+        }
+    }
+}
+
+impl fmt::Display for Fault {
+    ghost output = { λ fault. Some (sentence fault) };
+
+    fn fmt<W: fmt::Write>(&self, f: &mut fmt::Formatter<W>) -> fmt::Result {
+        f.write_str(self.words())
+    }
 }
 
 // A bad line: its number, counted from 1, and what is wrong.
-#[derive(Clone, Copy)]
+#[derive(Clone, Copy, Debug, PartialEq, Eq)]
 pub struct BadLine {
     pub line: usize,
     pub fault: Fault,
 }
 
-fn words(fault: Fault) -> &'static [u8]
-    ensures { result.now ≡ sentence fault }
-{
-    match fault {
-        Fault::NoForm => b"this is no step",
-        Fault::NoName => b"an entry has a name",
-        Fault::NoDigits => b"bytes are pairs of hex digits",
-        Fault::NoSeal => b"a seal has 64 hex digits",
-        Fault::NoList => b"a list is closed with a number from 0 to 65535",
-        Fault::NoParty => b"a party has a number from 0 to 255",
-        Fault::NoOpening => b"an opening has bytes",
-        Fault::NoKind => b"a step has a kind",
-        Fault::LongStep => b"a step has at most 65535 bytes",
-        Fault::NoFile => b"the file is missing",
-        Fault::LongFile => b"the file has more than 65534 bytes",
+impl fmt::Display for BadLine {
+    ghost output = { λ bad. Some (bad_line bad) };
+
+    fn fmt<W: fmt::Write>(&self, f: &mut fmt::Formatter<W>) -> fmt::Result {
+        let line = self.line;
+        let fault = self.fault;
+        write!(f, "line {line}: {fault}")
     }
 }
 
-// Writes a bad line in words, as `line 3: a seal has 64 hex digits`.
+impl Error for BadLine {}
+
+// Writes a bad line in words, as `line 3: a seal has 64 hex digits`. Unlike printing it, this cannot fail.
 pub fn put_bad_line(out: &mut [u8], at: usize, bad: BadLine) -> usize
     ensures { (out.new, result) ≡ put (out.old, at) (bad_line bad) }
 {
-    let number = put(out, at, b"line ");
-    let colon = put_decimal(out, number, bad.line);
-    let why = put(out, colon, b": ");
-    put(out, why, words(bad.fault))
+    let mut output = Output { memory: out, at };
+    output.put(b"line ");
+    output.put_decimal(bad.line);
+    output.put(b": ");
+    output.put(bad.fault.words().as_bytes());
+    output.at
 }

@@ -1,28 +1,19 @@
 // Hexadecimal digits read, of either case.
 ghost use Rattle.std.specs.Prelude.{◌≡◌, ◌<◌};
-ghost use Rattle.output.specs.Output.{put};
-ghost use Rattle.notation.specs.Hex.{is_digit, digit_value, all_digits, are_pairs, bytes_of, pair_value};
+ghost use Rattle.output.specs.Writes.{Writes};
+ghost use Rattle.notation.specs.Hex.{digit_value, all_digits, are_pairs, bytes_of, pair_value};
 
-use output::put_byte;
+use output::Output;
 
-fn is_digit(byte: u8) -> bool
-    ensures { result ≡ is_digit byte }
-{
-    matches!(byte, b'0'..=b'9' | b'A'..=b'F' | b'a'..=b'f')
-}
-
-// The value of a digit; letters of either case stand for 10 to 15.
-fn digit_value(byte: u8) -> u8
-    ensures is { result ≡ digit_value byte }
+// The value of a digit; any other byte counts as 0.
+fn digit_value(digit: u8) -> u8
+    ensures is { result ≡ digit_value digit }
     ensures small { result < 16 }
 {
-    if byte < b'A' {
-        return byte.saturating_sub(b'0').min(9);
+    match char::from(digit).to_digit(16) {
+        Some(value) => value as u8,
+        None => 0,
     }
-    if byte < b'a' {
-        return (byte - 55).min(15);
-    }
-    (byte - 87).min(15)
 }
 
 // The byte that two digits write.
@@ -35,12 +26,7 @@ pub(crate) fn pair_value(high: u8, low: u8) -> u8
 pub(crate) fn all_digits(digits: &[u8]) -> bool
     ensures { result ≡ all_digits digits.now }
 {
-    for digit in digits {
-        if !is_digit(*digit) {
-            return false;
-        }
-    }
-    true
+    digits.iter().all(|digit| digit.is_ascii_hexdigit())
 }
 
 pub(crate) fn are_pairs(digits: &[u8]) -> bool
@@ -50,14 +36,11 @@ pub(crate) fn are_pairs(digits: &[u8]) -> bool
 }
 
 // Writes the bytes that digits write, two by two.
-pub(crate) fn put_bytes_of(out: &mut [u8], at: usize, digits: &[u8]) -> usize
-    ensures { (out.new, result) ≡ put (out.old, at) (bytes_of digits.now) }
+pub(crate) fn put_bytes_of(out: &mut Output, digits: &[u8])
+    ensures { Writes out.old out.new (bytes_of digits.now) }
 {
-    let mut next = at;
-    let mut i = 0;
-    while digits.len() - i >= 2 {
-        next = put_byte(out, next, pair_value(digits[i], digits[i + 1]));
-        i += 2;
+    let (pairs, _) = digits.as_chunks::<2>();
+    for [high, low] in pairs {
+        out.put_byte(pair_value(*high, *low));
     }
-    next
 }

@@ -22,27 +22,38 @@ ghost use Rattle.notation.specs.Shown.{text_of, shown_into};
 ghost use Rattle.step_file.specs.File.{file_cut};
 
 pub use faults::{BadLine, Fault, put_bad_line};
-pub use paths::{NamedFile, next_file};
+pub use paths::Paths;
 
-mod bytes;
 mod faults;
 mod forms;
 mod hex;
+mod lines;
+mod numbers;
 mod parsed;
 mod paths;
 mod reading;
 mod shown;
+mod step;
+
+use output::Output;
+use reading::put_steps;
+use shown::put_lines;
+use step_file::CutShort;
 
 // Writes the text of a file of steps, and answers with the place behind it; where the file ends inside a step, nothing is
 // written. So a pass over no memory comes first.
-pub fn show(file: &[u8], out: &mut [u8]) -> Option<usize>
+pub fn show(file: &[u8], out: &mut [u8]) -> Result<usize, CutShort>
     ensures is { (out.new, result) ≡ shown_into out.old file.now }
     ensures again { file_cut file.now ≡ false → read_text (text_of file.now) [] ≡ written file.now }
 {
-    if shown::put_lines(file, &mut []).is_none() {
-        return None;
-    }
-    shown::put_lines(file, out)
+    let mut nowhere = Output {
+        memory: &mut [],
+        at: 0,
+    };
+    put_lines(file, &mut nowhere)?;
+    let mut output = Output { memory: out, at: 0 };
+    put_lines(file, &mut output)?;
+    Ok(output.at)
 }
 
 // Writes the file of steps that a text says, and answers with the place behind it; or answers with the first bad line, and
@@ -52,10 +63,14 @@ pub fn read<'a>(text: &'a [u8], files: &'a [u8], out: &mut [u8]) -> Result<usize
     ensures is { (out.new, result) ≡ answered out.old (read_text text.now files.now) }
     ensures whole { WholeRead text.now files.now }
 {
-    if let Err(bad) = reading::put_steps(text, files, &mut []) {
-        return Err(bad);
-    }
-    reading::put_steps(text, files, out)
+    let mut nowhere = Output {
+        memory: &mut [],
+        at: 0,
+    };
+    put_steps(text, files, &mut nowhere)?;
+    let mut output = Output { memory: out, at: 0 };
+    put_steps(text, files, &mut output)?;
+    Ok(output.at)
 }
 
 // A whole file of steps that is shown and read again is the same file.

@@ -1,146 +1,136 @@
 // What a line was found to be.
-ghost use Rattle.std.specs.Prelude.{◌≡◌};
+ghost use Rattle.std.specs.Prelude.{◌≡◌, None};
+ghost use Rattle.step_file.specs.Kinds.{kind_number};
 ghost use Rattle.notation.specs.Meanings.{meant, hex_step, entry, entry_hex, close_list, seal, alone, opened, opening, any_step, rest_read, meaning};
 
-use crate::bytes::{behind, front, is_blank, number_of, place_of};
 use crate::faults::Fault;
-use crate::forms::{Form, begins, form_of, words_of};
+use crate::forms::{Form, form_of};
 use crate::hex::{all_digits, are_pairs, pair_value};
+use crate::lines::{is_blank, split_once};
+use crate::numbers::number_of;
+use crate::step::{Body, Told};
+use parts::behind;
+use step_file::Kind;
 
-// Nothing; a step by its kind and its bytes, or the digits that write them; the number of a list; an opening of a party by
-// digits, by the contents of a file, or by the path of a file; no line of this notation.
+// Nothing, a step, or an opening of a party with the path of the file that has its bytes.
 #[derive(Clone, Copy)]
 pub(crate) enum Parsed<'a> {
     Nothing,
-    Bytes { kind: u8, bytes: &'a [u8] },
-    Digits { kind: u8, digits: &'a [u8] },
-    List { number: u16 },
-    Opening { party: u8, digits: &'a [u8] },
-    Contents { party: u8, bytes: &'a [u8] },
+    Step(Told<'a>),
     File { party: u8, path: &'a [u8] },
-    Bad(Fault),
 }
 
-fn hex_step(kind: u8, digits: &[u8]) -> Parsed<'_>
-    ensures { meant result ≡ hex_step kind digits.now }
+fn step(kind: Kind, body: Body<'_>) -> Parsed<'_>
+    ensures { result ≡ Parsed.Step (record { kind = kind_number kind; party = None; body = body.entry }) }
+{
+    Parsed::Step(Told {
+        kind: kind.into(),
+        party: None,
+        body,
+    })
+}
+
+fn hex_step(kind: Kind, digits: &[u8]) -> Result<Parsed<'_>, Fault>
+    ensures { meant result ≡ hex_step (kind_number kind) digits.now }
 {
     if are_pairs(digits) {
-        Parsed::Digits { kind, digits }
+        Ok(step(kind, Body::Digits(digits)))
     } else {
-        Parsed::Bad(Fault::NoDigits)
+        Err(Fault::NoDigits)
     }
 }
 
-fn entry(name: &[u8]) -> Parsed<'_>
+fn entry(name: &[u8]) -> Result<Parsed<'_>, Fault>
     ensures { meant result ≡ entry name.now }
 {
-    if name.len() == 0 {
-        return Parsed::Bad(Fault::NoName);
-    }
-    Parsed::Bytes {
-        kind: 1,
-        bytes: name,
+    if name.is_empty() {
+        Err(Fault::NoName)
+    } else {
+        Ok(step(Kind::Entry, Body::Bytes(name)))
     }
 }
 
-fn entry_hex(digits: &[u8]) -> Parsed<'_>
+fn entry_hex(digits: &[u8]) -> Result<Parsed<'_>, Fault>
     ensures { meant result ≡ entry_hex digits.now }
 {
-    if digits.len() == 0 {
-        return Parsed::Bad(Fault::NoName);
+    if digits.is_empty() {
+        Err(Fault::NoName)
+    } else {
+        hex_step(Kind::Entry, digits)
     }
-    hex_step(1, digits)
 }
 
-fn close_list<'a>(number: usize) -> Parsed<'a>
+fn close_list<'a>(number: Option<u16>) -> Result<Parsed<'a>, Fault>
     ensures { meant result ≡ close_list number }
 {
-    if number < 65536 {
-        Parsed::List {
-            number: number as u16,
-        }
-    } else {
-        Parsed::Bad(Fault::NoList)
-    }
+    let number = number.ok_or(Fault::NoList)?;
+    Ok(step(Kind::CloseList, Body::Number(number)))
 }
 
-fn seal(digits: &[u8]) -> Parsed<'_>
+fn seal(digits: &[u8]) -> Result<Parsed<'_>, Fault>
     ensures { meant result ≡ seal digits.now }
 {
-    if digits.len() != 64 {
-        return Parsed::Bad(Fault::NoSeal);
-    }
-    if all_digits(digits) {
-        Parsed::Digits { kind: 3, digits }
+    if digits.len() == 64 && all_digits(digits) {
+        Ok(step(Kind::Seal, Body::Digits(digits)))
     } else {
-        Parsed::Bad(Fault::NoSeal)
+        Err(Fault::NoSeal)
     }
 }
 
-fn alone(kind: u8, rest: &[u8]) -> Parsed<'_>
-    ensures { meant result ≡ alone kind rest.now }
+fn alone(kind: Kind, rest: &[u8]) -> Result<Parsed<'_>, Fault>
+    ensures { meant result ≡ alone (kind_number kind) rest.now }
 {
-    if rest.len() == 0 {
-        Parsed::Bytes { kind, bytes: &[] }
+    if rest.is_empty() {
+        Ok(step(kind, Body::Bytes(rest)))
     } else {
-        Parsed::Bad(Fault::NoForm)
+        Err(Fault::NoForm)
     }
 }
 
-fn opened(party: u8, word: &[u8]) -> Parsed<'_>
+fn opened(party: u8, word: &[u8]) -> Result<Parsed<'_>, Fault>
     ensures { meant result ≡ opened party word.now }
 {
     if !all_digits(word) {
-        return Parsed::File { party, path: word };
+        return Ok(Parsed::File { party, path: word });
     }
     if are_pairs(word) {
-        Parsed::Opening {
-            party,
-            digits: word,
-        }
+        Ok(Parsed::Step(Told {
+            kind: Kind::Opening.into(),
+            party: Some(party),
+            body: Body::Digits(word),
+        }))
     } else {
-        Parsed::Bad(Fault::NoDigits)
+        Err(Fault::NoDigits)
     }
 }
 
-fn opening(party: usize, word: &[u8]) -> Parsed<'_>
+fn opening(party: Option<u16>, word: &[u8]) -> Result<Parsed<'_>, Fault>
     ensures { meant result ≡ opening party word.now }
 {
-    if party >= 256 {
-        return Parsed::Bad(Fault::NoParty);
+    let number = party.ok_or(Fault::NoParty)?;
+    let party = u8::try_from(number).map_err(|_| Fault::NoParty)?;
+    if word.is_empty() {
+        return Err(Fault::NoOpening);
     }
-    if word.len() == 0 {
-        return Parsed::Bad(Fault::NoOpening);
-    }
-    opened(party as u8, word)
+    opened(party, word)
 }
 
-fn any_step(digits: &[u8]) -> Parsed<'_>
+fn any_step(digits: &[u8]) -> Result<Parsed<'_>, Fault>
     ensures { meant result ≡ any_step digits.now }
 {
     if !are_pairs(digits) {
-        return Parsed::Bad(Fault::NoDigits);
+        return Err(Fault::NoDigits);
     }
-    if digits.len() < 2 {
-        return Parsed::Bad(Fault::NoKind);
-    }
-    Parsed::Digits {
-        kind: pair_value(digits[0], digits[1]),
-        digits: behind(digits, 2),
-    }
-}
-
-// What stands behind the words of an opening.
-fn opening_rest(rest: &[u8]) -> Parsed<'_>
-    ensures { meant result ≡ rest_read Form.Opening rest.now }
-{
-    let end = place_of(rest, b' ');
-    let word = behind(behind(rest, end), 1);
-    opening(number_of(front(rest, end)), word)
+    let ([high, low], digits) = digits.split_first_chunk::<2>().ok_or(Fault::NoKind)?;
+    Ok(Parsed::Step(Told {
+        kind: pair_value(*high, *low),
+        party: None,
+        body: Body::Digits(digits),
+    }))
 }
 
 // What stands behind the words of a form.
-fn parse_rest(form: Form, rest: &[u8]) -> Parsed<'_>
+fn parse_rest(form: Form, rest: &[u8]) -> Result<Parsed<'_>, Fault>
     ensures { meant result ≡ rest_read form rest.now }
 {
     match form {
@@ -148,23 +138,22 @@ fn parse_rest(form: Form, rest: &[u8]) -> Parsed<'_>
         Form::EntryHex => entry_hex(rest),
         Form::CloseList => close_list(number_of(rest)),
         Form::Seal => seal(rest),
-        Form::CloseSeals => alone(4, rest),
-        Form::Opening => opening_rest(rest),
-        Form::Close => alone(6, rest),
+        Form::CloseSeals => alone(Kind::CloseSeals, rest),
+        Form::Opening => {
+            let (party, word) = split_once(rest, b' ');
+            opening(number_of(party), word)
+        }
+        Form::Close => alone(Kind::Close, rest),
         Form::StepHex => any_step(rest),
-        Form::Unknown => Parsed::Bad(Fault::NoForm),
     }
 }
 
-pub(crate) fn parse(line: &[u8]) -> Parsed<'_>
+pub(crate) fn parse(line: &[u8]) -> Result<Parsed<'_>, Fault>
     ensures { meant result ≡ meaning line.now }
 {
-    if is_blank(line) {
-        return Parsed::Nothing;
+    if is_blank(line) || line.starts_with(b"#") {
+        return Ok(Parsed::Nothing);
     }
-    if begins(b"#", line) {
-        return Parsed::Nothing;
-    }
-    let form = form_of(line);
-    parse_rest(form, behind(line, words_of(form).len()))
+    let form = form_of(line).ok_or(Fault::NoForm)?;
+    parse_rest(form, behind(line, form.words().len()))
 }

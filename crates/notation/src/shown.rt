@@ -1,13 +1,13 @@
 // A file of steps shown as text.
-ghost use Rattle.std.specs.Prelude.{◌≡◌, if◌then◌else◌, Some, None};
-ghost use Rattle.output.specs.Output.{put};
-ghost use Rattle.notation.specs.Shown.{form_entry, form_shown, rest_shown, line_shown, Passed};
+ghost use Rattle.std.specs.Prelude.{◌≡◌, if◌then◌else◌};
+ghost use Rattle.output.specs.Writes.{Writes};
+ghost use Rattle.notation.specs.Shown.{form_entry, form_shown, rest_shown, line_shown, Shows};
 
-use crate::bytes::{behind, byte_at};
-use crate::forms::{Form, words_of};
+use crate::forms::Form;
 use names_text::is_text;
-use output::{put, put_byte, put_decimal, put_hex};
-use step_file::{Reading, read_step};
+use output::Output;
+use parts::{behind, byte_at};
+use step_file::{CutShort, Kind, Step, Steps};
 
 fn entry_form(name: &[u8]) -> Form
     ensures { result ≡ form_entry name.now }
@@ -15,10 +15,10 @@ fn entry_form(name: &[u8]) -> Form
     if is_text(name) {
         return Form::Entry;
     }
-    if 0 < name.len() {
-        Form::EntryHex
-    } else {
+    if name.is_empty() {
         Form::StepHex
+    } else {
+        Form::EntryHex
     }
 }
 
@@ -33,73 +33,58 @@ fn form_if(fits: bool, form: Form) -> Form
 fn form_to_show(kind: u8, bytes: &[u8]) -> Form
     ensures { result ≡ form_shown kind bytes.now }
 {
-    match kind {
-        1 => entry_form(bytes),
-        2 => form_if(bytes.len() == 2, Form::CloseList),
-        3 => form_if(bytes.len() == 32, Form::Seal),
-        4 => form_if(bytes.len() == 0, Form::CloseSeals),
-        5 => form_if(1 < bytes.len(), Form::Opening),
-        6 => form_if(bytes.len() == 0, Form::Close),
-        _ => Form::StepHex,
+    match Kind::try_from(kind) {
+        Ok(Kind::Entry) => entry_form(bytes),
+        Ok(Kind::CloseList) => form_if(bytes.len() == 2, Form::CloseList),
+        Ok(Kind::Seal) => form_if(bytes.len() == 32, Form::Seal),
+        Ok(Kind::CloseSeals) => form_if(bytes.is_empty(), Form::CloseSeals),
+        Ok(Kind::Opening) => form_if(1 < bytes.len(), Form::Opening),
+        Ok(Kind::Close) => form_if(bytes.is_empty(), Form::Close),
+        Err(_) => Form::StepHex,
     }
 }
 
-// The number of a party and what it opens.
-fn put_opening(out: &mut [u8], at: usize, bytes: &[u8]) -> usize
-    ensures { (out.new, result) ≡ put (out.old, at) (rest_shown Form.Opening 0 bytes.now) }
-{
-    let party = put_decimal(out, at, byte_at(bytes, 0) as usize);
-    let space = put_byte(out, party, b' ');
-    put_hex(out, space, behind(bytes, 1))
-}
-
 // What stands behind the words of a form.
-fn put_rest(out: &mut [u8], at: usize, form: Form, kind: u8, bytes: &[u8]) -> usize
-    ensures { (out.new, result) ≡ put (out.old, at) (rest_shown form kind bytes.now) }
+fn put_rest(out: &mut Output, form: Form, kind: u8, bytes: &[u8])
+    ensures { Writes out.old out.new (rest_shown form kind bytes.now) }
 {
     match form {
-        Form::Entry => put(out, at, bytes),
-        Form::EntryHex => put_hex(out, at, bytes),
+        Form::Entry => out.put(bytes),
+        Form::EntryHex | Form::Seal => out.put_hex(bytes),
         Form::CloseList => {
-            let number = byte_at(bytes, 0) as usize + 256 * byte_at(bytes, 1) as usize;
-            put_decimal(out, at, number)
+            let number = u16::from_le_bytes([byte_at(bytes, 0), byte_at(bytes, 1)]);
+            out.put_decimal(usize::from(number));
         }
-        Form::Seal => put_hex(out, at, bytes),
-        Form::Opening => put_opening(out, at, bytes),
+        Form::Opening => {
+            out.put_decimal(usize::from(byte_at(bytes, 0)));
+            out.put_byte(b' ');
+            out.put_hex(behind(bytes, 1));
+        }
         Form::StepHex => {
-            let next = put_hex(out, at, &[kind]);
-            put_hex(out, next, bytes)
+            out.put_hex(&[kind]);
+            out.put_hex(bytes);
         }
-        Form::CloseSeals => at,
-        Form::Close => at,
-        Form::Unknown => at,
+        Form::CloseSeals => (),
+        Form::Close => (),
     }
 }
 
 // The line of a step.
-fn put_line(out: &mut [u8], at: usize, kind: u8, bytes: &[u8]) -> usize
-    ensures { (out.new, result) ≡ put (out.old, at) (line_shown (kind, bytes.now)) }
+fn put_line(out: &mut Output, step: Step)
+    ensures { Writes out.old out.new (line_shown (step.entry.kind, step.entry.bytes.now)) }
 {
-    let form = form_to_show(kind, bytes);
-    let words = put(out, at, words_of(form));
-    let rest = put_rest(out, words, form, kind, bytes);
-    put_byte(out, rest, b'\n')
+    let form = form_to_show(step.kind, step.bytes);
+    out.put(form.words());
+    put_rest(out, form, step.kind, step.bytes);
+    out.put_byte(b'\n');
 }
 
 // The lines of all steps, or of those before the place where the file ends inside a step.
-pub(crate) fn put_lines(file: &[u8], out: &mut [u8]) -> Option<usize>
-    ensures { Passed file.now out.old out.new result }
+pub(crate) fn put_lines(file: &[u8], out: &mut Output) -> Result<(), CutShort>
+    ensures { Shows file.now out.old out.new result }
 {
-    let mut at = 0;
-    let mut place = 0;
-    loop {
-        match read_step(file, at) {
-            Reading::End => return Some(place),
-            Reading::Cut => return None,
-            Reading::Step { kind, bytes, next } => {
-                place = put_line(out, place, kind, bytes);
-                at = next;
-            }
-        }
+    for step in Steps::new(file) {
+        put_line(out, step?);
     }
+    Ok(())
 }

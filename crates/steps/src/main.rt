@@ -4,9 +4,10 @@
 
 use anyhow::{Context, anyhow, bail};
 use names_text::is_text;
-use notation::{BadLine, NamedFile, next_file, put_bad_line, read, show};
+use notation::{Paths, read, show};
 use program::finish;
 use std::alloc::{AllocError, Global};
+use std::error::Error;
 use std::process::ExitCode;
 use std::str::from_utf8;
 use std::{env, fs};
@@ -33,11 +34,10 @@ fn save(rt: &HostRuntime, path: &str, bytes: &[u8]) -> anyhow::Result<()> {
 
 // Adds the contents of a file as a step. What is longer than a step is cut, and still too long for an opening.
 fn add_contents(files: &mut Vec<u8>, bytes: &[u8]) -> Result<(), AllocError> {
-    let size = bytes.len().min(65535);
+    let size = u16::try_from(bytes.len()).unwrap_or(u16::MAX);
     files.push(0)?;
-    files.push((size % 256) as u8)?;
-    files.push((size / 256) as u8)?;
-    files.extend_from_slice(&bytes[0..size])
+    files.extend_from_slice(&size.to_le_bytes())?;
+    files.extend_from_slice(&bytes[..usize::from(size)])
 }
 
 // A path that may be printed: what a text holds is not to reach a terminal unseen.
@@ -48,65 +48,48 @@ fn path_of(bytes: &[u8]) -> anyhow::Result<&str> {
     }
 }
 
-// The contents of the files that the lines name, one after another. A text has no more lines than bytes.
+// The contents of the files that the lines name, one after another.
 fn contents(rt: &HostRuntime, text: &[u8]) -> anyhow::Result<Vec<u8>> {
     let mut files = Vec::new(rt.alloc());
-    let mut at = 0;
-    for _ in 0..text.len() {
-        let Some(NamedFile { start, end, next }) = next_file(text, at) else {
-            break;
-        };
-        let file = read_file(rt, path_of(&text[start..end])?)?;
+    for path in Paths::new(text) {
+        let file = read_file(rt, path_of(path)?)?;
         add_contents(&mut files, file.as_slice())?;
-        at = next;
     }
     Ok(files)
 }
 
-// A bad line in words.
-fn told(bad: BadLine) -> anyhow::Error {
-    let mut words = [0; 120];
-    let end = put_bad_line(&mut words, 0, bad).min(120);
-    match from_utf8(&words[0..end]) {
-        Ok(text) => anyhow!(text),
-        Err(_) => anyhow!("a bad line"),
+// What is written into lent memory, which tells the place behind it. Where it reaches the end of the memory there may be
+// more, so twice as much is lent.
+fn in_memory<E: Error, F: FnMut(&mut [u8]) -> Result<usize, E>>(
+    heap: Global,
+    start: usize,
+    mut put: F,
+) -> anyhow::Result<Vec<u8>>
+    requires { F.IsAlwaysCallable put }
+{
+    let mut size = start;
+    for _ in 0..64 {
+        let mut out = vec![in heap; 0; size]?;
+        let end = put(out.as_mut_slice())?;
+        if end < size {
+            out.truncate(end);
+            return Ok(out);
+        }
+        size = size.saturating_mul(2);
     }
+    Err(anyhow!("there are too many steps"))
 }
 
-// The steps that a text says. Where they reach the end of the memory there may be more, so twice as much is lent.
+// The steps that a text says.
 fn steps_of(heap: Global, text: &[u8], files: &[u8]) -> anyhow::Result<Vec<u8>> {
-    let mut size = text.len().saturating_add(files.len()).saturating_add(1);
-    for _ in 0..64 {
-        let mut out = vec![in heap; 0; size]?;
-        match read(text, files, out.as_mut_slice()) {
-            Ok(end) if end < size => {
-                out.truncate(end);
-                return Ok(out);
-            }
-            Ok(_) => (),
-            Err(bad) => return Err(told(bad)),
-        }
-        size = size.saturating_mul(2);
-    }
-    Err(anyhow!("there are too many steps"))
+    let start = text.len().saturating_add(files.len()).saturating_add(1);
+    in_memory(heap, start, |out| read(text, files, out))
 }
 
-// The text that shows steps, in as much memory as it takes.
+// The text that shows steps.
 fn text_of(heap: Global, file: &[u8]) -> anyhow::Result<Vec<u8>> {
-    let mut size = file.len().saturating_mul(4).saturating_add(1);
-    for _ in 0..64 {
-        let mut out = vec![in heap; 0; size]?;
-        match show(file, out.as_mut_slice()) {
-            Some(end) if end < size => {
-                out.truncate(end);
-                return Ok(out);
-            }
-            Some(_) => (),
-            None => return Err(anyhow!("the file ends inside a step")),
-        }
-        size = size.saturating_mul(2);
-    }
-    Err(anyhow!("there are too many steps"))
+    let start = file.len().saturating_mul(4).saturating_add(1);
+    in_memory(heap, start, |out| show(file, out))
 }
 
 fn print_shown(rt: &HostRuntime, path: &str) -> anyhow::Result<()> {

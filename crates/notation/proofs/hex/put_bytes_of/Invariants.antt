@@ -1,9 +1,7 @@
-use Rattle.std.proofs.Common.{◌-◌, length}
-use Rattle.notation.proofs.Walks.{BytesSoFar}
+use Rattle.std.proofs.Common.{drop, map}
+use Rattle.output.proofs.Writing.{Underway}
+use Rattle.notation.proofs.Pairs.{pair_byte}
 use Rattle.notation.proofs.hex.put_bytes_of.Given as goal
 
-abbrev pub invariant-loop-i : goal.invariant-loop-i
-invariant-loop-i l = BytesSoFar (l.initial.out, l.at) l.digits (l.out, l.next) l.i
-
-abbrev pub decreases-loop-i : goal.decreases-loop-i
-decreases-loop-i l = length l.digits - l.i
+abbrev pub invariant-loop-high : goal.invariant-loop-high
+invariant-loop-high l = Underway l.initial.out l.out (map pair_byte l.pairs) (map pair_byte (drop l.high-index l.pairs))

@@ -1,44 +1,29 @@
-use Rattle.std.proofs.Common.{ℕ, ◌<◌, length, sym, ap, ◌∙◌, subst, arith}
-use Rattle.std.proofs.lemmas.List.{length-drop}
-use Rattle.notation.specs.Lines.{without_return}
-use Rattle.notation.specs.Meanings.{Meaning, meant}
-use Rattle.notation.specs.Read.{filled, size_of}
-use Rattle.notation.proofs.Places.{place_within}
-use Rattle.notation.proofs.Texts.{steps_none, steps_all, steps_bad, steps_more, filled_short}
+use Rattle.std.proofs.Common.{rules, ◌≡◌, ◌+◌, Ok, Err}
+use Rattle.notation.proofs.Turns.{begins, all_read, read_more, read_bad}
 use Rattle.notation.proofs.reading.put_steps.Goals as goal
 
-pub loop-at-init : goal.loop-at-init
-loop-at-init c = steps_none c.args.text.now c.args.files.now c.args.out.now
+pub loop-done-init : goal.loop-done-init
+loop-done-init c =
+    let start = begins c.args.out.now c.args.text.now c.args.files.now in
+    rw (c.into_iter-done-iterator.ensures.into_iter_gives, c.enumerate-done-items.ensures.source, c.enumerate-done-items.ensures.count, c.new-files.ensures) start
 
-pub overflow_add-result : goal.overflow_add-result
-overflow_add-result c = omega (arith, c.loop-at.invariant.3)
+pub loop-done-preserved : goal.loop-done-preserved
+loop-done-preserved c =
+    let next = c.in-Some.ensures.steps in
+    let good : c.put_line.result ≡ Ok tt = search rules in
+    let line = rw (c.without_return.ensures, good) at c.put_line.ensures in
+    rw next.2 (read_more c.loop-done.invariant c.in-Some.line.now c.next.new.self.iter.rest.now next.0 c.put_line.new.out c.put_line.new.files.rest.now line.0 line.1)
 
-pub returns-in-Bad : goal.returns-in-Bad
-returns-in-Bad c =
-    steps_bad c.args.text.now c.args.files.now c.args.out.now c.loop-at.out c.loop-at.place c.loop-at.at c.loop-at.done c.loop-at.file c.loop-at.invariant
-    c.loop-at-test.true c.behind-rest.result.now c.without_return.result.now c.fill-next.result.0 c.place_of-end.result c.fill-next.result.1 c.behind-rest.ensures
-    c.place_of-end.ensures (c.without_return.ensures ∙ ap without_return c.front.ensures) (c.fill-next.ensures ∙ ap (filled c.args.files.now c.loop-at.file) c.parse.ensures)
-    c.in-Bad.fault c.in-Bad.is
-
-pub put_line-place-requires : goal.put_line-place-requires
-put_line-place-requires c =
-    subst (λ (z : Meaning × ℕ). size_of z.0 < 65536) (sym c.fill-next.ensures) (filled_short c.args.files.now c.loop-at.file (meant c.parse.result))
-
-pub overflow_add-done : goal.overflow_add-done
-overflow_add-done c = omega (arith, c.loop-at.invariant.3)
-
-pub overflow_add-at : goal.overflow_add-at
-overflow_add-at c = omega (arith, place_within 10 c.behind-rest.result.now, ap length c.behind-rest.ensures, length-drop c.loop-at.at c.args.text.now, c.place_of-end.ensures)
-
-pub overflow_add-at-in-loop-at : goal.overflow_add-at-in-loop-at
-overflow_add-at-in-loop-at c = omega (arith, place_within 10 c.behind-rest.result.now, ap length c.behind-rest.ensures, length-drop c.loop-at.at c.args.text.now, c.place_of-end.ensures)
-
-pub loop-at-preserved : goal.loop-at-preserved
-loop-at-preserved c =
-    steps_more c.args.text.now c.args.files.now c.args.out.now c.loop-at.out c.loop-at.place c.loop-at.at c.loop-at.done c.loop-at.file c.loop-at.invariant
-    c.loop-at-test.true c.behind-rest.result.now c.without_return.result.now c.fill-next.result.0 c.place_of-end.result c.fill-next.result.1 c.behind-rest.ensures
-    c.place_of-end.ensures (c.without_return.ensures ∙ ap without_return c.front.ensures) (c.fill-next.ensures ∙ ap (filled c.args.files.now c.loop-at.file) c.parse.ensures)
-    c.put_line-place.new.out c.put_line-place.result c.in_default.not-Bad c.put_line-place.ensures
+pub returns-in_err-map_err : goal.returns-in_err-map_err
+returns-in_err-map_err c =
+    let next = c.in-Some.ensures.steps in
+    let why = c.in_err-map_err.field-0.0 in
+    let bad : c.put_line.result ≡ Err why.fault = search rules in
+    let number : why.line ≡ c.loop-done.done-iterator.count + 1 = search rules in
+    let line = rw (c.without_return.ensures, bad) at c.put_line.ensures in
+    let told = read_bad c.loop-done.invariant c.in-Some.line.now c.next.new.self.iter.rest.now next.0 c.put_line.new.out why.fault line.0 in
+    let result : c.from_residual.result ≡ Err why = search rules in
+    rw (result, number) told
 
 pub returns : goal.returns
-returns c = steps_all c.args.text.now c.args.files.now c.args.out.now c.loop-at.out c.loop-at.place c.loop-at.at c.loop-at.done c.loop-at.file c.loop-at.invariant c.loop-at-test.false
+returns c = all_read c.loop-done.invariant c.in-None.ensures.steps.0.0

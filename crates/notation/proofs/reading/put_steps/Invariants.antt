@@ -1,9 +1,6 @@
-use Rattle.std.proofs.Common.{◌-◌, length}
-use Rattle.notation.proofs.Texts.{StepsSoFar}
+use Rattle.notation.specs.Read.{read_text}
+use Rattle.notation.proofs.Turns.{Reading}
 use Rattle.notation.proofs.reading.put_steps.Given as goal
 
-abbrev pub invariant-loop-at : goal.invariant-loop-at
-invariant-loop-at l = StepsSoFar l.text l.files l.initial.out l.out l.place l.at l.done l.file
-
-abbrev pub decreases-loop-at : goal.decreases-loop-at
-decreases-loop-at l = length l.text - l.at
+abbrev pub invariant-loop-done : goal.invariant-loop-done
+invariant-loop-done l = Reading (read_text l.text l.fn.files) l.initial.out l.out l.done-iterator.count l.done-iterator.iter.rest.now l.files.rest.now

@@ -1,6 +1,6 @@
-use Rattle.notation.proofs.Showing.{line_put}
+use Rattle.std.proofs.Common.{rules}
+use Rattle.output.proofs.Writing.{writes_then}
 use Rattle.notation.proofs.shown.put_line.Goals as goal
 
 pub returns : goal.returns
-returns c =
-    line_put (c.args.out.now, c.args.at) c.args.kind c.args.bytes.now c.form_to_show-form.ensures c.words_of.ensures c.put-words.ensures c.put_rest-rest.ensures c.put_byte.ensures
+returns c = let w = writes_then c.put.ensures (writes_then c.put_rest.ensures c.put_byte.ensures) in search rules

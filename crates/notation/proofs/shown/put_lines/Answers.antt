@@ -1,23 +1,15 @@
-use Rattle.std.proofs.Common.{arith}
-use Rattle.notation.proofs.Showing.{lines_none, lines_all, lines_cut, lines_more, lines_further}
+use Rattle.std.proofs.Common.{ap, sym, ◌∙◌}
+use Rattle.std.specs.List.{flat_map}
+use Rattle.output.proofs.Writing.{underway_turn, underway_done}
+use Rattle.notation.specs.Shown.{line_shown}
 use Rattle.notation.proofs.shown.put_lines.Goals as goal
 
-pub loop-kind-init : goal.loop-kind-init
-loop-kind-init c = lines_none c.args.file.now c.args.out.now
+pub loop-step-preserved : goal.loop-step-preserved
+loop-step-preserved c =
+    let first = rw c.in_ok-step.was at c.in-Some.ensures.steps in
+    (underway_turn (ap (flat_map line_shown) first.0) c.loop-step.invariant.0 c.put_line.ensures, sym first.1 ∙ c.loop-step.invariant.1)
 
-pub returns-in-End : goal.returns-in-End
-returns-in-End c = lines_all c.args.file.now c.args.out.now c.loop-kind.out c.loop-kind.place c.loop-kind.at c.loop-kind.invariant c.in-End.ensures
-
-pub returns-in-Cut : goal.returns-in-Cut
-returns-in-Cut c = lines_cut c.args.file.now c.args.out.now c.loop-kind.out c.loop-kind.place c.loop-kind.at c.loop-kind.invariant c.in-Cut.ensures
-
-pub loop-kind-preserved : goal.loop-kind-preserved
-loop-kind-preserved c =
-    lines_more c.args.file.now c.args.out.now c.loop-kind.out c.loop-kind.place c.loop-kind.at c.loop-kind.invariant c.in-Step.kind c.in-Step.next c.in-Step.bytes.now
-    c.in-Step.ensures c.put_line-place.new.out c.put_line-place.result c.put_line-place.ensures
-
-pub loop-kind-smaller : goal.loop-kind-smaller
-loop-kind-smaller c =
-    let h = lines_further c.args.file.now c.args.out.now c.loop-kind.out c.loop-kind.place c.loop-kind.at c.loop-kind.invariant c.in-Step.kind c.in-Step.next
-    c.in-Step.bytes.now c.in-Step.ensures in
-    omega (arith, h.0, h.1)
+pub returns : goal.returns
+returns c =
+    let none = c.in-None.ensures.steps in
+    (sym c.loop-step.invariant.1 ∙ none.1, underway_done (ap (flat_map line_shown) none.0) c.loop-step.invariant.0)
