@@ -154,7 +154,8 @@ impl NameList<'_> {
 
     // Name number `number` of the list, as a part of the bytes; none of that number is no bytes.
     pub fn name(&self, number: u16) -> &[u8]
-        ensures { result.now ≡ slice_index_or (map (name_in self.now.slots.now) self.now.index.now) number [] }
+        ensures is { result.now ≡ slice_index_or (map (name_in self.now.slots.now) self.now.index.now) number [] }
+        ensures short { length result.now < 256 }
     {
         match self.index.get(number as usize) {
             Some(slot) => name_in(self.slots, *slot),
