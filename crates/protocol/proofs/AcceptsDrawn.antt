@@ -1,12 +1,14 @@
 -- The protocol of a draw, as it is read again. Assumes nothing.
 use Rattle.std.proofs.Common.{◌≡◌, ℕ, zero, suc, ◌+◌, ◌-◌, ◌*◌, ◌<◌, ◌≤◌, true, false, cond, not, eqb, List, [], ◌∷◌, ◌++◌, map, length, get_or, drop, IfSome, Some, None, Option, sym, refl, ap, ◌∙◌, subst, add-one, arith}
 use Rattle.std.specs.List.{flat_map}
+use Rattle.std.specs.Option.{option_map}
 use Rattle.std.specs.Ordering.{is_lt}
 use Rattle.std.specs.Str.{bytes_eq}
 use Rattle.std.proofs.lemmas.List.FromFn.{fill_by_all}
 use Rattle.std.proofs.lemmas.Slice.Eq.{bytes_eq-Decides}
 use Rattle.std.proofs.lemmas.List.{drop_all, take_at, length-append}
 use Rattle.std.proofs.lemmas.Bool.{cond-true}
+use Rattle.refusals.specs.declared.Refusal.TheVariants.{WrongOrder}
 use Rattle.sha256.specs.Sha256.{sha256}
 use Rattle.entries.specs.Rows.{packed_rows, row_order}
 use Rattle.seals.specs.Seal.{seal_of}
@@ -18,9 +20,9 @@ use Rattle.protocol.specs.Layout.{name_count, name_at, name_of, length_at, bits_
 use Rattle.protocol.specs.Protocol.{Party, Protocol, word, written_party, written_order, written, openings, drawing_from, ordered}
 use Rattle.order.proofs.Slices.{drawn_length}
 use Rattle.protocol.proofs.Verdicts.{verdict_accepted}
-use Rattle.protocol.proofs.Names.{name_tail, name_length, name_is}
+use Rattle.protocol.proofs.NamesRead.{name_tail, name_length, name_is}
 use Rattle.protocol.proofs.OrderNumbers.{words_length, numbers_are}
-use Rattle.protocol.proofs.Parties.{mark, Long, Shaped, party_tail, party_told, party_is}
+use Rattle.protocol.proofs.PartiesRead.{mark, Long, Shaped, party_tail, party_told, party_is}
 use Rattle.protocol.proofs.Passes.{Fit, Ranged, Sealed, shape_passes, range_passes, seal_passes, early_passes}
 use Rattle.protocol.proofs.Tails.{tail_at, tail_first, tail_drop, tail_long, tail_word, word_is}
 
@@ -199,7 +201,7 @@ module _ (d : Protocol) (o : OfDraw d) where
   accepted_drawn =
       sym
       (verdict_accepted B (early_passes B (shape_passes B (size_by d.order refl behind_parties)) (range_passes B ranged) (seal_passes B sealed)) d.order (o.drawn ∙ ap ordered (sym drawing_same))
-      n (length d.parties) (length (openings d.parties)) (order_right d.order behind_parties) (sym count) (sym party_number) (sym opened_same))
+      n (length d.parties) (length (openings d.parties)) (ap (option_map (λ at. WrongOrder at)) (order_right d.order behind_parties)) (sym count) (sym party_number) (sym opened_same))
 
 pub accepts_drawn : (bytes : List ℕ) (v : Verdict) → v ≡ verdict bytes → AcceptsDrawn bytes v
 accepts_drawn bytes v e d o w = e ∙ (ap verdict (sym w) ∙ accepted_drawn d o)

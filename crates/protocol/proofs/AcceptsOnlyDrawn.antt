@@ -1,6 +1,7 @@
 -- Whatever is accepted is the protocol of a draw. Assumes nothing.
 use Rattle.std.proofs.Common.{◌≡◌, ℕ, zero, suc, ◌+◌, ◌*◌, ◌<◌, ◌≤◌, Bool, true, false, cond, eqb, List, [], ◌∷◌, ◌++◌, map, length, get_or, take, drop, Some, None, Option, Ordering, Less, Equal, Greater, sym, refl, ap, ◌∙◌, subst, append_assoc, add-one, arith}
 use Rattle.std.specs.List.{range_with_len, flat_map}
+use Rattle.std.specs.Option.{option_map}
 use Rattle.std.specs.Ordering.{is_lt}
 use Rattle.std.specs.Str.{bytes_eq}
 use Rattle.std.proofs.lemmas.List.FromFn.{length-map-range_with_len, get_or-map-range_with_len}
@@ -15,13 +16,13 @@ use Rattle.seals.specs.Seal.{seal_of}
 use Rattle.listing.specs.Listing.{Sorted}
 use Rattle.order.specs.Drawings.{Drawing, drawn, run_out}
 use Rattle.sum.specs.Sums.{sum_of}
-use Rattle.protocol.specs.Check.{Verdict, accepted, hash_of, is_wrong, opened_count, drawing_of, order_fault, early_fault, told, judged, judged_order, verdict}
+use Rattle.protocol.specs.Check.{Verdict, accepted, hash_of, is_wrong, opened_count, drawing_of, order_fault, early_fault, judged, judged_order, verdict}
 use Rattle.protocol.specs.Draws.{Bytes, Name, PartyOf, no_party, OfDraw, acceptance, AcceptsOnlyDrawn}
 use Rattle.protocol.specs.Layout.{name_count, name_at, name_of, length_at, bits_length, party_count, opening_size, party_at, party_of, parties_of, order_at, numbers_at, size}
 use Rattle.protocol.specs.Protocol.{Party, Protocol, word, written_party, written_order, written, openings, drawing_from, ordered}
 use Rattle.order.proofs.Slices.{drawn_length}
 use Rattle.protocol.proofs.Fronts.{part_long, bytes_part}
-use Rattle.protocol.proofs.Passes.{else_none, told_none, Ranged, Sealed, shape_passed, range_passed, seal_passed, early_passed}
+use Rattle.protocol.proofs.Passes.{else_none, map_none, Ranged, Sealed, shape_passed, range_passed, seal_passed, early_passed}
 use Rattle.protocol.proofs.Places.{order_last}
 use Rattle.protocol.proofs.Rewritten.{name_long, names_stand, party_within, order_front, numbers_front}
 
@@ -186,12 +187,12 @@ only_drawn : (B : List ℕ) (n p k : ℕ) (o : Option (List ℕ)) → Bytes B �
 unfolding verdict
 only_drawn B n p k o byte e =
     let a = judged_none (early_fault B) (judged_order B (ordered (drawing_of B))) n p k o e in
-    let b = judged_none (told (λ at. WrongOrder at) (order_fault B (ordered (drawing_of B))) None) (accepted (name_count B) (party_count B) (opened_count B) (ordered (drawing_of B))) n p k o a.1 in
+    let b = judged_none (option_map (λ at. WrongOrder at) (order_fault B (ordered (drawing_of B)))) (accepted (name_count B) (party_count B) (opened_count B) (ordered (drawing_of B))) n p k o a.1 in
     let passed = early_passed B a.0 in
     let whole = shape_passed B passed.0 in
     let r = range_passed B passed.1 in
     let s = seal_passed B passed.2 in
-    let f = (told_none (λ at. WrongOrder at) (order_fault B (ordered (drawing_of B))) None b.0).0 in (
+    let f = map_none (λ at. WrongOrder at) (order_fault B (ordered (drawing_of B))) b.0 in (
       told_draw B byte whole r s f,
       of_draw B byte whole r s f,
       rewritten B byte whole r s f,

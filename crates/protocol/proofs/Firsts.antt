@@ -1,7 +1,9 @@
 -- The first fault of several. Assumes nothing.
-use Rattle.std.proofs.Common.{◌≡◌, ℕ, zero, suc, ◌+◌, ◌-◌, ◌<◌, true, false, is_some, Some, None, Option, sym, refl, ap, ◌∙◌, suc-add, zero-add, add-one, arith}
-use Rattle.std.proofs.lemmas.Bool.{true≢false, false≢true}
+use Rattle.std.proofs.Common.{◌≡◌, ℕ, zero, suc, ◌+◌, ◌-◌, ◌<◌, Some, None, Option, sym, refl, ap, ◌∙◌, suc-add, zero-add, add-one, arith}
+use Rattle.std.specs.Option.{option_map}
+use Rattle.refusals.specs.declared.Refusal.{Refusal}
 use Rattle.protocol.specs.Check.{or_else, first_of}
+use Rattle.protocol.proofs.Passes.{map_none}
 
 module _ (f : ℕ → Option ℕ) where
   pub first_none : first_of f 0 ≡ None
@@ -27,11 +29,14 @@ module _ (f : ℕ → Option ℕ) where
       let s : d + suc k ≡ n = omega arith in
       ap (first_of f) (sym s) ∙ first_stays (suc k) d x here
 
-  -- the same by what was answered at k
-  pub first_is : (k n : ℕ) (o : Option ℕ) → k < n → first_of f k ≡ None → o ≡ f k → is_some o ≡ true → o ≡ first_of f n
-  first_is k n None l h e s = absurd (false≢true s)
-  first_is k n (Some x) l h e s = sym (first_found k n x l h (sym e))
+  -- the same, as the refusal that is answered
+  module _ (why : ℕ → Refusal) where
+    pub refused_first : (k n : ℕ) (e : Refusal) → k < n → first_of f k ≡ None → Some e ≡ option_map why (f k) → Some e ≡ option_map why (first_of f n)
+    refused_first k n e l h q = go (f k) refl q
+      where
+        go : (o : Option ℕ) → o ≡ f k → Some e ≡ option_map why o → Some e ≡ option_map why (first_of f n)
+        go None z w = absurd (let z : ◌≡◌ {A = ℕ} 0 1 = cc in omega arith)
+        go (Some x) z w = w ∙ ap (option_map why) (sym (first_found k n x l h (sym z)))
 
-  pub first_on : (k : ℕ) (o : Option ℕ) → first_of f k ≡ None → o ≡ f k → is_some o ≡ false → first_of f (k + 1) ≡ None
-  first_on k None h e s = first_more k h (sym e)
-  first_on k (Some x) h e s = absurd (true≢false s)
+    pub passed_on : (k : ℕ) → first_of f k ≡ None → None ≡ option_map why (f k) → first_of f (k + 1) ≡ None
+    passed_on k h q = first_more k h (map_none why (f k) (sym q))

@@ -1,13 +1,13 @@
 pub mod Firsts
 pub mod Walks
+pub mod Turns
 pub mod Opened
 pub mod Faults
 pub mod Writes
-pub mod Drawn
 pub mod Verdicts
 pub mod Tails
-pub mod Names
-pub mod Parties
+pub mod NamesRead
+pub mod PartiesRead
 pub mod Passes
 pub mod OrderNumbers
 pub mod AcceptsDrawn
@@ -15,3 +15,4 @@ pub mod Fronts
 pub mod Places
 pub mod Rewritten
 pub mod AcceptsOnlyDrawn
+pub mod Answered

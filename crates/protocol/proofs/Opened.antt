@@ -1,65 +1,64 @@
 -- The openings of the parties so far. Assumes nothing.
-use Rattle.std.proofs.Common.{◌≡◌, ℕ, ◌+◌, Bool, cond, eqb, List, [], ◌∷◌, ◌++◌, map, length, get_or, take, drop, Some, None, Option, sym, refl, ap, ◌∙◌, ⊎_elim, add-zero, arith}
-use mir.Val.{bool_byte}
-use Rattle.std.specs.List.{range_with_len}
+use Rattle.std.proofs.Common.{◌≡◌, ℕ, zero, suc, ◌+◌, ◌-◌, ◌≤◌, Bool, true, false, cond, List, [], ◌∷◌, ◌++◌, map, length, drop, Some, None, sym, refl, ap, ◌∙◌, arith}
+use Rattle.std.specs.List.{range_with_len, filter}
 use Rattle.std.specs.Option.{option_to_list}
 use Rattle.std.proofs.lemmas.List.FromFn.{map-range_with_len_more}
-use Rattle.std.proofs.lemmas.List.{append-nil, flat_map_more, length_push, map_push, drop-take, drop-drop}
-use Rattle.std.proofs.lemmas.Bool.{cond-true, cond-false, eq-eqb, ne_eqb, cases_eq}
+use Rattle.std.proofs.lemmas.List.{flat_map_more, map-append}
 use Rattle.sum.specs.Sums.{sum_from, xor_bytes}
-use Rattle.protocol.specs.Layout.{bits_length, party_at, party_in, party_of}
+use Rattle.protocol.specs.Layout.{opened_in, party_of}
 use Rattle.protocol.specs.Protocol.{Party, openings}
+use Rattle.protocol.specs.Walk.{parties_between}
+use Rattle.protocol.proofs.Turns.{turns}
 
--- one more row added to the sum
-pub sum_push : (s : List ℕ) (rows : List (List ℕ)) (row : List ℕ) → sum_from s (rows ++ row ∷ []) ≡ xor_bytes (sum_from s rows) row
+-- rows added after others
+pub sum_append : (s : List ℕ) (rows more : List (List ℕ)) → sum_from s (rows ++ more) ≡ sum_from (sum_from s rows) more
 unfolding sum_from
-sum_push s [] row = refl
-sum_push s (r ∷ rows) row = sum_push (xor_bytes s r) rows row
+sum_append s [] more = refl
+sum_append s (r ∷ rows) more = sum_append (xor_bytes s r) rows more
+
+filter_le : {X : Type 0} (b : Bool) (x : X) (ys xs : List X) → length ys ≤ length xs → length (cond b (x ∷ ys) ys) ≤ length (x ∷ xs)
+filter_le true x ys xs h = omega arith
+filter_le false x ys xs h = omega arith
+
+length-filter-le : {X : Type 0} (t : X → Bool) (xs : List X) → length (filter t xs) ≤ length xs
+length-filter-le t [] = omega arith
+length-filter-le t (x ∷ xs) = filter_le (t x) x (filter t xs) xs (length-filter-le t xs)
 
 module _ (bytes : List ℕ) where
   -- the openings of the first k parties
   abbrev pub so_far : ℕ → List (List ℕ)
   so_far k = openings (map (party_of bytes) (range_with_len 0 k))
 
-  more : (k : ℕ) → so_far (k + 1) ≡ so_far k ++ option_to_list (party_of bytes k).opening
+  pub more : (k : ℕ) → so_far (k + 1) ≡ so_far k ++ option_to_list (party_of bytes k).opening
   more k =
       ap openings (map-range_with_len_more (party_of bytes) 0 k k (omega arith))
       ∙ sym (flat_map_more (λ (p : Party). option_to_list p.opening) [] (map (party_of bytes) (range_with_len 0 k)) (party_of bytes k))
 
-  module _ (k at L b : ℕ) (e : at ≡ party_at bytes k) (l : L ≡ bits_length bytes) (f : b ≡ get_or bytes (at + 32) 0) where
-    here : Option (List ℕ)
-    here = cond (eqb b 1) (Some (take (32 + L) (drop (at + 33) bytes))) None
+  -- the bits of one more party added to the sum
+  pub summed_more : (s was after : List ℕ) (k : ℕ) → was ≡ sum_from s (map (drop 32) (so_far k)) → after ≡ sum_from was (map (drop 32) (option_to_list (party_of bytes k).opening))
+      → after ≡ sum_from s (map (drop 32) (so_far (k + 1)))
+  summed_more s was after k h e =
+      let new : List (List ℕ) = option_to_list (party_of bytes k).opening in
+      e
+      ∙ (ap (λ (z : List ℕ). sum_from z (map (drop 32) new)) h
+      ∙ (sym (sum_append s (map (drop 32) (so_far k)) (map (drop 32) new))
+      ∙ ap (sum_from s) (sym (map-append (drop 32) (so_far k) new) ∙ ap (map (drop 32)) (sym (more k)))))
 
-    here_is : (party_of bytes k).opening ≡ here
-    unfolding here
-    here_is =
-        ap (λ (a : ℕ). (party_in bytes (bits_length bytes) a).opening) (sym e)
-        ∙ (ap (λ (m : ℕ). (party_in bytes m at).opening) (sym l)
-        ∙ ap (λ (x : ℕ). cond (eqb x 1) (Some (take (32 + L) (drop (at + 33) bytes))) None) (sym f))
+  abbrev opens : List ℕ × ℕ → Bool
+  opens p = opened_in p.0 p.1
 
-    pub so_far_opened : b ≡ 1 → so_far (k + 1) ≡ so_far k ++ take (32 + L) (drop (at + 33) bytes) ∷ []
-    unfolding here
-    so_far_opened h = more k ∙ ap (λ (o : Option (List ℕ)). so_far k ++ option_to_list o) (here_is ∙ cond-true _ _ _ (eq-eqb b 1 h))
+  -- as many parties opened as there are openings
+  counted_more : (t : Bool) (x : List ℕ) (p : List ℕ × ℕ) (ps : List (List ℕ × ℕ)) (xs : List (List ℕ)) → length ps ≡ length xs
+      → length (cond t (p ∷ ps) ps) ≡ length (option_to_list (cond t (Some x) None) ++ xs)
+  counted_more true x p ps xs h = ap (λ (m : ℕ). suc m) h
+  counted_more false x p ps xs h = h
 
-    pub so_far_closed : (b ≡ 1 → ⊥) → so_far (k + 1) ≡ so_far k
-    unfolding here
-    so_far_closed h = more k ∙ (ap (λ (o : Option (List ℕ)). so_far k ++ option_to_list o) (here_is ∙ cond-false _ _ _ (ne_eqb b 1 h)) ∙ append-nil (so_far k))
+  counted_from : (a n : ℕ) → length (filter opens (map (λ (k : ℕ). (bytes, k)) (range_with_len a n))) ≡ length (openings (map (party_of bytes) (range_with_len a n)))
+  counted_from a zero = refl
+  counted_from a (suc n) = counted_more (opened_in bytes a) _ (bytes, a) _ _ (counted_from (a + 1) n)
 
-    -- one more is counted if the party opened
-    pub count_more : length (so_far (k + 1)) ≡ length (so_far k) + bool_byte (eqb b 1)
-    count_more =
-        ⊎_elim
-        (λ (h : b ≡ 1). ap length (so_far_opened h) ∙ (length_push (so_far k) (take (32 + L) (drop (at + 33) bytes)) ∙ ap (λ (t : Bool). length (so_far k) + bool_byte t) (sym (eq-eqb b 1 h))))
-        (λ (h : b ≡ 1 → ⊥). ap length (so_far_closed h) ∙ (sym (add-zero (length (so_far k))) ∙ ap (λ (t : Bool). length (so_far k) + bool_byte t) (sym (ne_eqb b 1 h))))
-        (cases_eq b 1)
+  pub opened_filter : (n : ℕ) → length (filter opens (parties_between bytes 0 n)) ≡ length (openings (map (party_of bytes) (range_with_len 0 n)))
+  opened_filter n = counted_from 0 (n - 0) ∙ ap (λ (m : ℕ). length (openings (map (party_of bytes) (range_with_len 0 m)))) (let z : n - 0 ≡ n = omega arith in z)
 
-    -- its bits are those behind the first 32 bytes of its opening
-    pub bits_more : b ≡ 1 → (j : ℕ) → j ≡ at + 65 → map (drop 32) (so_far (k + 1)) ≡ map (drop 32) (so_far k) ++ take L (drop j bytes) ∷ []
-    bits_more h j m =
-        let bits : drop 32 (take (32 + L) (drop (at + 33) bytes)) ≡ take L (drop j bytes) =
-        drop-take 32 L (drop (at + 33) bytes) ∙ (ap (take L) (drop-drop 32 (at + 33) bytes) ∙ ap (λ (i : ℕ). take L (drop i bytes)) (let z : at + 33 + 32 ≡ j = omega arith in z)) in
-        ap (map (drop 32)) (so_far_opened h)
-        ∙ (map_push (drop 32) (so_far k) (take (32 + L) (drop (at + 33) bytes)) ∙ ap (λ (z : List ℕ). map (drop 32) (so_far k) ++ z ∷ []) bits)
-
-    pub bits_same : (b ≡ 1 → ⊥) → map (drop 32) (so_far (k + 1)) ≡ map (drop 32) (so_far k)
-    bits_same h = ap (map (drop 32)) (so_far_closed h)
+  pub few_opened : (n : ℕ) → length (filter opens (parties_between bytes 0 n)) ≤ n
+  few_opened n = omega (arith, length-filter-le opens (parties_between bytes 0 n), turns bytes n)

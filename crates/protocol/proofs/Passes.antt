@@ -1,9 +1,10 @@
 -- When a pass finds nothing. Assumes nothing.
 use Rattle.std.proofs.Common.{◌≡◌, ℕ, zero, suc, ◌+◌, ◌<◌, ◌≤◌, Bool, true, false, cond, eqb, ltb, List, length, get_or, Some, None, Option, sym, refl, ap, ◌∙◌, ⊎_elim, arith}
+use Rattle.std.specs.Option.{option_map}
 use Rattle.std.specs.Ordering.{is_lt}
 use Rattle.std.proofs.lemmas.Bool.{cond-true, cond-false, le-ltb, ltb-false, ne_eqb, eqb-false, or_from, or_parts, cases_lt}
 use Rattle.refusals.specs.declared.Refusal.{Refusal}
-use Rattle.refusals.specs.declared.Refusal.TheVariants.{ProtocolLength, OutOfRange, BadOpening}
+use Rattle.refusals.specs.declared.Refusal.TheVariants.{ProtocolLength, OutOfRange, BadOpening, NoneOpened}
 use Rattle.entries.specs.Rows.{row_order}
 use Rattle.protocol.specs.Check.{or_else, first_of, outside, shape_fault, name_before, name_fault, opened_fault, range_fault, hash_of, wrong_opening, party_fault, opened_count, seal_fault, told, early_fault}
 use Rattle.protocol.specs.Layout.{name_count, name_at, name_of, length_at, bits_length, party_count, party_at, party_of, size}
@@ -27,6 +28,13 @@ or_pass a b h e = ap (λ (o : Option ℕ). or_else o b) h ∙ e
 pub or_none : (a b : Option ℕ) → or_else a b ≡ None → (a ≡ None) × (b ≡ None)
 or_none None b e = (refl, e)
 or_none (Some x) b e = absurd (let z : ◌≡◌ {A = ℕ} 0 1 = cc in omega arith)
+
+pub map_none : (f : ℕ → Refusal) (a : Option ℕ) → option_map f a ≡ None → a ≡ None
+map_none f None e = refl
+map_none f (Some x) e = absurd (let z : ◌≡◌ {A = ℕ} 0 1 = cc in omega arith)
+
+pub told_pass : (f : ℕ → Refusal) (a : Option ℕ) (b : Option Refusal) → a ≡ None → b ≡ None → told f a b ≡ None
+told_pass f a b h e = ap (λ (o : Option ℕ). told f o b) h ∙ e
 
 pub told_none : (f : ℕ → Refusal) (a : Option ℕ) (b : Option Refusal) → told f a b ≡ None → (a ≡ None) × (b ≡ None)
 told_none f None b e = (refl, e)
@@ -126,27 +134,23 @@ module _ (B : List ℕ) where
 
   pub seal_passes : Sealed → seal_fault B ≡ None
   seal_passes s =
-      or_pass (first_of (party_fault (hash_of B) B) (party_count B)) _
+      told_pass (λ k. BadOpening k) _ _
       (first_all (party_fault (hash_of B) B) (party_count B) (λ k h. cond_pass (wrong_opening (hash_of B) k (party_of B k)) k None (s.each_opening k h) refl))
-      (cond_pass (eqb (opened_count B) 0) 255 None (ne_eqb _ _ s.some_opened) refl)
+      (cond_pass (eqb (opened_count B) 0) NoneOpened None (ne_eqb _ _ s.some_opened) refl)
 
   pub seal_passed : seal_fault B ≡ None → Sealed
   seal_passed e =
-      let a = or_none (first_of (party_fault (hash_of B) B) (party_count B)) _ e in
+      let a = told_none (λ k. BadOpening k) (first_of (party_fault (hash_of B) B) (party_count B)) _ e in
       record {
         each_opening = λ k h. (cond_none (wrong_opening (hash_of B) k (party_of B k)) k None (first_each (party_fault (hash_of B) B) (party_count B) k a.0 h)).0;
-        some_opened = eqb-false (opened_count B) 0 (cond_none (eqb (opened_count B) 0) 255 None a.1).0;
+        some_opened = eqb-false (opened_count B) 0 (cond_none (eqb (opened_count B) 0) NoneOpened None a.1).0;
       }
 
   pub early_passes : shape_fault B ≡ None → range_fault B ≡ None → seal_fault B ≡ None → None ≡ early_fault B
-  early_passes s r o =
-      sym
-      (ap (λ (z : Option ℕ). told (λ at. ProtocolLength at) z (told (λ at. OutOfRange at) (range_fault B) (told (λ at. BadOpening at) (seal_fault B) None))) s
-      ∙ (ap (λ (z : Option ℕ). told (λ at. OutOfRange at) z (told (λ at. BadOpening at) (seal_fault B) None)) r
-      ∙ ap (λ (z : Option ℕ). told (λ at. BadOpening at) z None) o))
+  early_passes s r o = sym (told_pass (λ at. ProtocolLength at) _ _ s (told_pass (λ at. OutOfRange at) _ _ r o))
 
   pub early_passed : early_fault B ≡ None → (shape_fault B ≡ None) × (range_fault B ≡ None) × (seal_fault B ≡ None)
   early_passed e =
       let a = told_none (λ at. ProtocolLength at) (shape_fault B) _ e in
       let b = told_none (λ at. OutOfRange at) (range_fault B) _ a.1 in
-      (a.0, b.0, (told_none (λ at. BadOpening at) (seal_fault B) None b.1).0)
+      (a.0, b.0, b.1)

@@ -1,8 +1,9 @@
 -- The verdict by what the passes found. Assumes nothing.
 use Rattle.std.proofs.Common.{◌≡◌, ℕ, List, Some, None, Option, ap, ◌∙◌}
+use Rattle.std.specs.Option.{option_map}
 use Rattle.refusals.specs.declared.Refusal.{Refusal}
 use Rattle.refusals.specs.declared.Refusal.TheVariants.{WrongOrder}
-use Rattle.protocol.specs.Check.{accepted, refused, early_fault, drawing_of, order_fault, opened_count, told, judged, judged_order, verdict}
+use Rattle.protocol.specs.Check.{accepted, refused, early_fault, drawing_of, order_fault, opened_count, judged, judged_order, verdict}
 use Rattle.protocol.specs.Layout.{name_count, party_count}
 use Rattle.protocol.specs.Protocol.{ordered}
 
@@ -12,18 +13,15 @@ module _ (bytes : List ℕ) where
   verdict_early why e = ap (λ (o : Option Refusal). judged o (judged_order bytes (ordered (drawing_of bytes)))) e
 
   module _ (early : None ≡ early_fault bytes) (order : Option (List ℕ)) (drawn : order ≡ ordered (drawing_of bytes)) where
-    late : judged_order bytes order ≡ verdict bytes
+    pub verdict_late : (o : Option Refusal) → o ≡ option_map (λ at. WrongOrder at) (order_fault bytes order)
+        → judged o (accepted (name_count bytes) (party_count bytes) (opened_count bytes) order) ≡ verdict bytes
     unfolding verdict
-    late = ap (judged_order bytes) drawn ∙ ap (λ (o : Option Refusal). judged o (judged_order bytes (ordered (drawing_of bytes)))) early
+    verdict_late o e =
+        ap (λ (z : Option Refusal). judged z (accepted (name_count bytes) (party_count bytes) (opened_count bytes) order)) e
+        ∙ (ap (judged_order bytes) drawn ∙ ap (λ (z : Option Refusal). judged z (judged_order bytes (ordered (drawing_of bytes)))) early)
 
-    at_order : (o : Option ℕ) → o ≡ order_fault bytes order → judged (told (λ at. WrongOrder at) o None) (accepted (name_count bytes) (party_count bytes) (opened_count bytes) order) ≡ verdict bytes
-    at_order o e =
-        ap (λ (z : Option ℕ). judged (told (λ at. WrongOrder at) z None) (accepted (name_count bytes) (party_count bytes) (opened_count bytes) order)) e ∙ late
-
-    pub verdict_late : (at : ℕ) → Some at ≡ order_fault bytes order → refused (WrongOrder at) ≡ verdict bytes
-    verdict_late at e = at_order (Some at) e
-
-    pub verdict_accepted : (n p k : ℕ) → None ≡ order_fault bytes order → n ≡ name_count bytes → p ≡ party_count bytes → k ≡ opened_count bytes → accepted n p k order ≡ verdict bytes
+    pub verdict_accepted : (n p k : ℕ) → None ≡ option_map (λ at. WrongOrder at) (order_fault bytes order) → n ≡ name_count bytes → p ≡ party_count bytes → k ≡ opened_count bytes
+        → accepted n p k order ≡ verdict bytes
     verdict_accepted n p k e f g h =
         ap (λ (z : ℕ). accepted z p k order) f
-        ∙ (ap (λ (z : ℕ). accepted (name_count bytes) z k order) g ∙ (ap (λ (z : ℕ). accepted (name_count bytes) (party_count bytes) z order) h ∙ at_order None e))
+        ∙ (ap (λ (z : ℕ). accepted (name_count bytes) z k order) g ∙ (ap (λ (z : ℕ). accepted (name_count bytes) (party_count bytes) z order) h ∙ verdict_late None e))

@@ -1,27 +1,30 @@
 -- How a protocol that anyone may have written is checked: in four passes, so that refusals are looked for in the order of their numbers. Assumes nothing.
-use Rattle.std.specs.Prelude.{ℕ, zero, suc, ◌+◌, ◌-◌, Bool, false, cond, not, ◌||◌, List, [], length, take, drop, Some, None, vec_items, Option, ◌==◌, nat_lt, slice_index}
+use Rattle.std.specs.Prelude.{ℕ, zero, suc, ◌+◌, ◌-◌, Bool, false, cond, not, ◌||◌, List, [], length, take, drop, Some, None, vec_items, Ok, Err, Result, Option, ◌==◌, nat_lt, slice_index}
 use Rattle.std.specs.Option.{option_map}
 use Rattle.std.specs.Ordering.{is_lt}
 use Rattle.std.specs.Str.{bytes_eq}
 use Rattle.refusals.specs.declared.Refusal.{Refusal}
-use Rattle.refusals.specs.declared.Refusal.TheVariants.{ProtocolLength, OutOfRange, BadOpening, WrongOrder}
+use Rattle.refusals.specs.declared.Refusal.TheVariants.{ProtocolLength, OutOfRange, BadOpening, NoneOpened, WrongOrder}
 use Rattle.sha256.specs.Sha256.{sha256}
 use Rattle.entries.specs.Rows.{row_order, longest_name, most_names}
 use Rattle.seals.specs.Seal.{seal_of}
 use Rattle.order.specs.Drawings.{Drawing}
 use Rattle.protocol.specs.Protocol.{Party, openings, drawing_from, ordered}
 use Rattle.protocol.specs.Layout.{name_count, name_at, name_in, name_of, length_at, bits_length, party_count, party_at, party_of, parties_of, order_at, numbers_at, size}
-use Rattle.protocol.specs.declared.Checked.{Checked}
-use Rattle.protocol.specs.declared.Checked.TheVariants.{Accepted, Refused}
+use Rattle.protocol.specs.declared.verdict.Accepted.{Accepted}
+use Rattle.protocol.specs.declared.verdict.CheckError.{CheckError}
+use Rattle.protocol.specs.declared.verdict.CheckError.TheVariants.{Refused, NoMemory}
 
 -- accepted, with the number of names, of parties and of those that opened, and the order if there is one; or refused
 pub data Verdict : Type 0 where
   accepted : ℕ → ℕ → ℕ → Option (List ℕ) → Verdict
   refused : Refusal → Verdict
 
-abbrev pub checked : Checked → Verdict
-checked (Accepted names parties opened order) = accepted names parties opened (option_map vec_items order)
-checked (Refused why) = refused why
+-- the verdict that is answered; there is none where memory ran out
+abbrev pub answered : Result Accepted CheckError → Option Verdict
+answered (Ok a) = Some (accepted a.names a.parties a.opened (option_map vec_items a.order))
+answered (Err (Refused why)) = Some (refused why)
+answered (Err (NoMemory e)) = None
 
 -- the first of two, and of f 0, f 1, .., f (n - 1), that is there
 abbrev pub or_else : Option ℕ → Option ℕ → Option ℕ
@@ -34,6 +37,11 @@ first_of f (suc k) = or_else (first_of f k) (f k)
 
 abbrev pub outside : ℕ → ℕ → ℕ → Bool
 outside least most n = nat_lt n least || nat_lt most n
+
+-- a fault told with its number, or what the next pass tells
+abbrev pub told : (ℕ → Refusal) → Option ℕ → Option Refusal → Option Refusal
+told why None next = next
+told why (Some at) next = Some (why at)
 
 -- SHAPE: the protocol has as many bytes as its counts and lengths say; else it ends too early, or goes on
 abbrev pub shape_fault : List ℕ → Option ℕ
@@ -81,14 +89,14 @@ wrong_opening hash k p = is_wrong hash k p.seal p.opening
 abbrev pub party_fault : List ℕ → List ℕ → ℕ → Option ℕ
 party_fault hash bytes k = cond (wrong_opening hash k (party_of bytes k)) (Some k) None
 
--- and a party opened
 abbrev pub opened_count : List ℕ → ℕ
 opened_count bytes = length (openings (parties_of bytes))
 
-abbrev pub seal_fault : List ℕ → Option ℕ
+-- and a party opened
+abbrev pub seal_fault : List ℕ → Option Refusal
 seal_fault bytes =
-    or_else (first_of (party_fault (hash_of bytes) bytes) (party_count bytes))
-    (cond (opened_count bytes == 0) (Some 255) None)
+    told (λ k. BadOpening k) (first_of (party_fault (hash_of bytes) bytes) (party_count bytes))
+    (cond (opened_count bytes == 0) (Some NoneOpened) None)
 
 -- ORDER: the order is the one drawn from the sum of the opened parties' bits, and the word says whether there is one
 abbrev pub drawing_of : List ℕ → Drawing
@@ -101,14 +109,9 @@ order_fault bytes (Some ns) =
     (cond (bytes_eq (numbers_at bytes (order_at bytes + 1) (length ns)) ns) None (Some (order_at bytes + 1)))
     (Some (order_at bytes))
 
--- a fault told with its number, or what the next pass tells
-abbrev pub told : (ℕ → Refusal) → Option ℕ → Option Refusal → Option Refusal
-told why None next = next
-told why (Some at) next = Some (why at)
-
 abbrev pub early_fault : List ℕ → Option Refusal
 early_fault bytes =
-    told (λ at. ProtocolLength at) (shape_fault bytes) (told (λ at. OutOfRange at) (range_fault bytes) (told (λ at. BadOpening at) (seal_fault bytes) None))
+    told (λ at. ProtocolLength at) (shape_fault bytes) (told (λ at. OutOfRange at) (range_fault bytes) (seal_fault bytes))
 
 abbrev pub judged : Option Refusal → Verdict → Verdict
 judged None v = v
@@ -116,7 +119,7 @@ judged (Some why) v = refused why
 
 abbrev pub judged_order : List ℕ → Option (List ℕ) → Verdict
 judged_order bytes order =
-    judged (told (λ at. WrongOrder at) (order_fault bytes order) None) (accepted (name_count bytes) (party_count bytes) (opened_count bytes) order)
+    judged (option_map (λ at. WrongOrder at) (order_fault bytes order)) (accepted (name_count bytes) (party_count bytes) (opened_count bytes) order)
 
 unfoldable pub verdict : List ℕ → Verdict
 verdict bytes = judged (early_fault bytes) (judged_order bytes (ordered (drawing_of bytes)))

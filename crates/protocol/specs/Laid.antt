@@ -1,15 +1,15 @@
 -- The layout of a protocol as the code holds it. Assumes nothing.
 use Rattle.std.specs.Prelude.{◌≡◌, ℕ, ◌^◌, ◌<◌, ◌≤◌, List}
 use Rattle.protocol.specs.Layout.{name_count, length_at, bits_length, party_count, order_at}
-use Rattle.protocol.specs.declared.layout.Layout.{Layout}
 
--- the numbers and places are those of these bytes, and the places are far from the end of memory
-pub record LaidOut (bytes : List ℕ) (l : Layout) : Type 0 where
-  pub names : l.names ≡ name_count bytes
-  pub first : l.length_at ≡ length_at bytes
-  pub bits : l.length ≡ bits_length bytes
-  pub parties : l.parties ≡ party_count bytes
-  pub second : l.order_at ≡ order_at bytes
-  pub behind : 2 ≤ l.length_at
-  pub near : l.length_at < 2 ^ 32
-  pub far : l.order_at < 2 ^ 33
+-- numbers and places are those of these bytes, and the places are far from the end of memory
+pub record LaidOut (bytes : List ℕ) (names first bits parties second : ℕ) : Type 0 where
+  pub names_are : names ≡ name_count bytes
+  pub first_is : first ≡ length_at bytes
+  pub bits_are : bits ≡ bits_length bytes
+  pub parties_are : parties ≡ party_count bytes
+  pub few_parties : parties < 256
+  pub second_is : second ≡ order_at bytes
+  pub behind : 2 ≤ first
+  pub near : first < 2 ^ 31
+  pub far : second < 2 ^ 33

@@ -2,6 +2,8 @@ pub mod Protocol
 pub mod Layout
 pub mod Laid
 pub mod Check
+pub mod Found
+pub mod Walk
 pub mod Numbers
 pub mod Draws
 pub mod Finished

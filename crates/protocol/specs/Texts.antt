@@ -1,6 +1,6 @@
 -- What is printed of a checked protocol. Assumes nothing.
-use Rattle.std.specs.Prelude.{◌≡◌, ℕ, Bool, true, false, List, ◌++◌, length, codes, decimal}
-use Rattle.refusals.specs.Numbered.{number, place}
+use Rattle.std.specs.Prelude.{◌≡◌, ℕ, Bool, true, false, List, ◌++◌, length, Ok, Err, Result, String, string_bytes, codes}
+use Rattle.refusals.specs.Numbered.{refused_words}
 use Rattle.refusals.specs.declared.Refusal.{Refusal}
 use Rattle.texts.specs.Lines.{summary_lines}
 use Rattle.protocol.specs.Check.{Verdict, accepted, refused}
@@ -9,7 +9,7 @@ use Rattle.protocol.specs.Protocol.{Protocol, written, openings}
 
 -- refused 12 at 5
 abbrev pub refused_line : Refusal → List ℕ
-refused_line why = codes "refused " ++ (decimal (number why) ++ (codes " at " ++ (decimal (place why) ++ codes "\n")))
+refused_line why = refused_words why ++ codes "\n"
 
 -- the two lines of the draw, or why the protocol is refused
 abbrev pub verdict_text : Verdict → List ℕ
@@ -19,6 +19,11 @@ verdict_text (refused why) = refused_line why
 abbrev pub is_accepted : Verdict → Bool
 is_accepted (accepted names parties opened order) = true
 is_accepted (refused why) = false
+
+-- the text that is answered, of an accepted protocol or of a refused one
+abbrev pub answered_text : {Z : Type 0} → Result (String Z) (String Z) → List ℕ
+answered_text (Ok text) = string_bytes text
+answered_text (Err text) = string_bytes text
 
 -- the text that a draw ends with
 abbrev pub draw_text : Protocol → List ℕ

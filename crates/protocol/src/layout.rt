@@ -1,107 +1,112 @@
 // Where the parts of a protocol stand, by its counts and lengths as they stand.
-ghost use Rattle.std.specs.Prelude.{◌≡◌, ◌+◌, ◌*◌, ◌^◌, ◌<◌, ◌≤◌, slice_index};
-ghost use Rattle.protocol.specs.Check.{shape_fault};
+ghost use Rattle.std.specs.Prelude.{◌≡◌, ◌+◌, ◌^◌, ◌<◌, ◌≤◌};
+ghost use Rattle.protocol.specs.Check.{shape_fault, hash_of};
 ghost use Rattle.protocol.specs.Laid.{LaidOut};
-ghost use Rattle.protocol.specs.Layout.{name_at, length_at, bits_length, party_at, opening_size, size};
+ghost use Rattle.protocol.specs.Layout.{party_count, size};
+ghost use Rattle.protocol.specs.Walk.{parties_between, parties_left};
+ghost use Rattle.std.specs.Option.{option_map};
+ghost use Rattle.std.specs.Result.{result_err};
+ghost use Rattle.refusals.specs.declared.Refusal.TheVariants.{ProtocolLength};
 
-use crate::bytes::{byte_at, word_at};
+use crate::names::Name;
+use crate::parties::{Parties, Party};
+use crate::words::word_at;
+use parts::{byte_at, part};
+use refusals::Refusal;
 
-// The number of names; the place of how many bytes each party puts in, and that number; the number of parties, which
-// stands behind it; and the place of the word whether there is an order.
+// The bytes of a protocol, and where its parts stand: the number of names; the place of how many bytes each party puts
+// in, and that number; the number of parties, which stands behind it; and the place of the word whether there is an
+// order.
 #[derive(Clone, Copy)]
-pub(crate) struct Layout {
+pub(crate) struct Layout<'a> {
+    pub bytes: &'a [u8],
     pub names: u16,
     pub length_at: usize,
     pub length: u16,
     pub parties: u8,
     pub order_at: usize,
+    ghost laid_out: { LaidOut bytes.now names length_at length parties order_at },
 }
 
-impl Layout {
-    pub(crate) fn of(bytes: &[u8]) -> Layout
-        ensures { LaidOut bytes.now result }
+impl<'a> Layout<'a> {
+    #[tactic(auto, unfolding(crate::specs::Layout::name_count, crate::specs::Layout::length_at, crate::specs::Layout::bits_length, crate::specs::Layout::party_count, crate::specs::Layout::party_at, crate::specs::Layout::order_at))]
+    pub(crate) fn of(bytes: &'a [u8]) -> Layout<'a>
+        ensures { result.bytes.now ≡ bytes.now }
     {
         let names = word_at(bytes, 0);
-        let length_at = names_end(bytes, names);
+        let length_at = Name::of(bytes, names).at;
         let length = word_at(bytes, length_at);
         let parties = byte_at(bytes, length_at + 2);
-        let order_at = parties_end(bytes, length_at + 3, length, parties);
+        let first = Party {
+            bytes,
+            length,
+            number: 0,
+            at: length_at + 3,
+        };
         Layout {
+            bytes,
             names,
             length_at,
             length,
             parties,
-            order_at,
+            order_at: first.further(parties).at,
         }
+    }
+
+    // The party of a number, as its place is counted.
+    #[tactic(auto, unfolding(crate::specs::Layout::party_at))]
+    pub(crate) fn party(&self, number: u8) -> Party<'a>
+        ensures bytes { result.bytes.now ≡ self.now.bytes.now }
+        ensures number { result.number ≡ number }
+    {
+        let first = Party {
+            bytes: self.bytes,
+            length: self.length,
+            number: 0,
+            at: self.length_at + 3,
+        };
+        first.further(number)
+    }
+
+    pub(crate) fn each_party(&self) -> Parties<'a>
+        ensures { parties_left result ≡ parties_between self.now.bytes.now 0 (party_count self.now.bytes.now) }
+    {
+        Parties {
+            first: self.party(0),
+            end: self.parties,
+        }
+    }
+
+    // The hash of the list: of the names' bytes as they stand.
+    pub(crate) fn list_hash(&self) -> [u8; 32]
+        ensures { result ≡ hash_of self.now.bytes.now }
+    {
+        sha256::hash(part(self.bytes, 2, self.length_at - 2))
     }
 
     // How many bytes the protocol has by its counts and lengths.
-    fn size(self, bytes: &[u8]) -> usize
-        requires { LaidOut bytes.now self }
-        ensures { result ≡ size bytes.now }
+    #[tactic(auto, unfolding(crate::specs::Layout::size))]
+    fn size(&self) -> usize
+        ensures { result ≡ size self.now.bytes.now }
     {
-        let order = if byte_at(bytes, self.order_at) == 1 {
-            2 * self.names as usize
-        } else {
-            0
-        };
-        self.order_at + 1 + order
+        let order = self.order_at + 1;
+        if byte_at(self.bytes, self.order_at) != 1 {
+            return order;
+        }
+        order + 2 * self.names as usize
     }
 
-    // The first pass: where the protocol ends too early, its length; where it goes on, the first place too many.
-    pub(crate) fn shape_fault(self, bytes: &[u8]) -> Option<usize>
-        requires { LaidOut bytes.now self }
-        ensures { result ≡ shape_fault bytes.now }
+    // The first pass: where the protocol ends too early, its length is told; where it goes on, the first place too many.
+    pub(crate) fn check_shape(&self) -> Result<(), Refusal>
+        ensures { result_err result ≡ option_map (λ at. ProtocolLength at) (shape_fault self.now.bytes.now) }
     {
-        let size = self.size(bytes);
-        if bytes.len() < size {
-            return Some(bytes.len());
+        let size = self.size();
+        if self.bytes.len() < size {
+            return Err(Refusal::ProtocolLength(self.bytes.len()));
         }
-        if size < bytes.len() {
-            return Some(size);
+        if size < self.bytes.len() {
+            return Err(Refusal::ProtocolLength(size));
         }
-        None
+        Ok(())
     }
-}
-
-// The place behind the names.
-pub(crate) fn names_end(bytes: &[u8], names: u16) -> usize
-    ensures is { result ≡ name_at bytes.now names }
-    ensures least { 2 ≤ result }
-    ensures small { result ≤ 2 + 256 * names }
-{
-    let mut at = 2;
-    for _k in 0..names {
-        at += 1 + byte_at(bytes, at) as usize;
-    }
-    at
-}
-
-// The place behind a party.
-pub(crate) fn party_end(bytes: &[u8], at: usize, length: u16) -> usize
-    requires { at < 2 ^ 63 }
-    ensures is { result ≡ at + 33 + opening_size (slice_index bytes.now (at + 32)) length }
-    ensures small { result ≤ at + 65600 }
-{
-    let opening = if byte_at(bytes, at + 32) == 1 {
-        32 + length as usize
-    } else {
-        0
-    };
-    at + 33 + opening
-}
-
-// The place behind the parties.
-pub(crate) fn parties_end(bytes: &[u8], first: usize, length: u16, parties: u8) -> usize
-    requires first { first ≡ length_at bytes.now + 3 }
-    requires bits { length ≡ bits_length bytes.now }
-    requires near { first ≤ 2 ^ 32 + 3 }
-    ensures is { result ≡ party_at bytes.now parties }
-    ensures small { result ≤ first + 65600 * parties }
-{
-    let mut at = first;
-    for _k in 0..parties {
-        at = party_end(bytes, at, length);
-    }
-    at
 }

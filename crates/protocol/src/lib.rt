@@ -6,82 +6,65 @@
 // there is an order, else 0, and if there is one the order as numbers of the list.
 #![tactic(auto)]
 
-ghost use Rattle.std.specs.Prelude.{◌≡◌, IfOk, vec_items, string_bytes};
+ghost use Rattle.std.specs.Prelude.{◌≡◌, is_ok, IfSome, IfOk};
 ghost use Rattle.std.specs.Option.{option_map};
-ghost use Rattle.protocol.specs.Check.{checked, verdict, early_fault};
-ghost use Rattle.protocol.specs.Laid.{LaidOut};
+ghost use Rattle.std.specs.Result.{result_err};
+ghost use Rattle.protocol.specs.Check.{answered, verdict, early_fault};
 ghost use Rattle.protocol.specs.Draws.{AcceptsDrawn, AcceptsOnlyDrawn};
 ghost use Rattle.protocol.specs.Finished.{protocol_of};
 ghost use Rattle.protocol.specs.Numbers.{bits_used};
 ghost use Rattle.protocol.specs.Protocol.{written};
-ghost use Rattle.protocol.specs.Texts.{verdict_text, is_accepted, refused_line, RepeatsDrawn, RepeatsOnlyDrawn};
+ghost use Rattle.protocol.specs.Texts.{verdict_text, is_accepted, answered_text, RepeatsDrawn, RepeatsOnlyDrawn};
 
+use entries::NameList;
 use layout::Layout;
-use order::Outcome;
 use refusals::Refusal;
+use seals::Parties;
 use std::alloc::{AllocError, Global};
+use words::write_word;
+use writing::{write_names, write_order, write_parties};
 
-mod bytes;
+mod by_number;
 mod layout;
+mod names;
 mod openings;
 mod orders;
-mod parts;
+mod parties;
 mod ranges;
+mod sums;
+mod verdict;
+mod words;
 mod writing;
 
-pub use parts::{bits_length, has_opened, list_hash, name};
-
-// Accepted, with the numbers of names, of parties and of those that opened, and the order if there is one; or refused.
-#[derive(Drop)]
-pub enum Checked {
-    Accepted {
-        names: u16,
-        parties: u8,
-        opened: u8,
-        order: Option<Vec<u16>>,
-    },
-    Refused(Refusal),
-}
+pub use by_number::{bits_length, has_opened, list_hash, name};
+pub use verdict::{Accepted, CheckError};
 
 // Checks a protocol in four passes: its shape, its ranges, its seals, its order. It takes memory for what is in the
 // protocol only, whatever its counts claim.
-pub fn check(heap: Global, protocol: &[u8]) -> Result<Checked, AllocError>
-    ensures is { IfOk result (λ c. checked c ≡ verdict protocol.now) }
-    ensures drawn { IfOk result (λ c. AcceptsDrawn protocol.now (checked c)) }
-    ensures only { IfOk result (λ c. AcceptsOnlyDrawn protocol.now (checked c)) }
+pub fn check(heap: Global, protocol: &[u8]) -> Result<Accepted, CheckError>
+    ensures is { IfSome (answered result) (λ v. v ≡ verdict protocol.now) }
+    ensures drawn { IfSome (answered result) (AcceptsDrawn protocol.now) }
+    ensures only { IfSome (answered result) (AcceptsOnlyDrawn protocol.now) }
 {
     let layout = Layout::of(protocol);
-    if let Some(why) = early_fault(protocol, layout) {
-        return Ok(Checked::Refused(why));
-    }
-    let order = orders::draw(heap, protocol, layout)?;
-    if let Some(at) = orders::order_fault(protocol, layout.order_at, &order) {
-        return Ok(Checked::Refused(Refusal::WrongOrder(at)));
-    }
-    let opened = openings::opened_count(protocol, layout);
-    Ok(Checked::Accepted {
+    check_early(&layout)?;
+    let drawn = orders::draw(heap, &layout)?;
+    orders::check_order(&layout, &drawn)?;
+    Ok(Accepted {
         names: layout.names,
         parties: layout.parties,
-        opened,
-        order,
+        opened: openings::opened_count(&layout),
+        order: drawn.map(|drawn| drawn.order),
     })
 }
 
-// What the first three passes refuse.
-fn early_fault(protocol: &[u8], layout: Layout) -> Option<Refusal>
-    requires { LaidOut protocol.now layout }
-    ensures { result ≡ early_fault protocol.now }
+// The first three passes.
+fn check_early(layout: &Layout) -> Result<(), Refusal>
+    ensures { result_err result ≡ early_fault layout.now.bytes.now }
 {
-    if let Some(at) = layout.shape_fault(protocol) {
-        return Some(Refusal::ProtocolLength(at));
-    }
-    if let Some(at) = ranges::range_fault(protocol, layout) {
-        return Some(Refusal::OutOfRange(at));
-    }
-    if let Some(party) = openings::seal_fault(protocol, layout) {
-        return Some(Refusal::BadOpening(party));
-    }
-    None
+    layout.check_shape()?;
+    ranges::check_ranges(layout)?;
+    openings::check_seals(layout)
 }
 
 // How many bits are used for the order that is drawn, if there is one. Nothing is drawn where the first three passes
@@ -90,79 +73,41 @@ pub fn bits_used(heap: Global, protocol: &[u8]) -> Result<Option<usize>, AllocEr
     ensures { IfOk result (λ u. u ≡ bits_used protocol.now) }
 {
     let layout = Layout::of(protocol);
-    if early_fault(protocol, layout).is_some() {
+    if check_early(&layout).is_err() {
         return Ok(None);
     }
-    orders::bits_read(heap, protocol, layout)
+    let drawn = orders::draw(heap, &layout)?;
+    Ok(drawn.map(|drawn| drawn.used))
 }
 
-// The protocol of a finished draw, from its memory: the slots and the index of the names, how many they are, how many
-// bytes each party puts in, the records and the number of the parties, and the order, whose first numbers count if it was
-// drawn.
+// The protocol of a finished draw: its list, its parties, and the order if there is one.
 pub fn write(
     heap: Global,
-    slots: &[u8],
-    index: &[u16],
-    count: u16,
-    length: u16,
-    seals: &[u8],
-    parties: u8,
-    order: &[u16],
-    outcome: Outcome,
+    list: &NameList,
+    parties: &Parties,
+    order: Option<&[u16]>,
 ) -> Result<Vec<u8>, AllocError>
-    ensures { IfOk result (λ v. v.items ≡ written (protocol_of slots.now index.now count length seals.now parties order.now outcome)) }
+    ensures { IfOk result (λ v. v.items ≡ written (protocol_of list.now.slots.now list.now.index.now list.now.count parties.now.length parties.now.records.now parties.now.count (option_map (λ x. x.now) order.entry))) }
 {
     let mut out = Vec::new(heap);
-    writing::write_names(&mut out, slots, index, count)?;
-    writing::write_word(&mut out, length)?;
-    out.push(parties)?;
-    writing::write_parties(&mut out, seals, length, parties)?;
-    writing::write_order(&mut out, order, count, outcome)?;
+    write_names(&mut out, list)?;
+    write_word(&mut out, parties.length)?;
+    out.push(parties.count)?;
+    write_parties(&mut out, parties)?;
+    write_order(&mut out, order)?;
     Ok(out)
 }
 
-// What the program that repeats a draw prints of a protocol: the two lines of the draw, or why the protocol is refused; and
-// whether it is accepted.
-pub fn repeat_text(heap: Global, protocol: &[u8]) -> Result<(String, bool), AllocError>
-    ensures is { IfOk result (λ t. (string_bytes t.0 ≡ verdict_text (verdict protocol.now)) × (t.1 ≡ is_accepted (verdict protocol.now))) }
-    ensures drawn { IfOk result (λ t. RepeatsDrawn protocol.now (string_bytes t.0) t.1) }
-    ensures only { IfOk result (λ t. RepeatsOnlyDrawn protocol.now (string_bytes t.0) t.1) }
+// What the program that repeats a draw prints of a protocol: the two lines of the draw, or as an error why the protocol is
+// refused.
+pub fn repeat_text(heap: Global, protocol: &[u8]) -> Result<Result<String, String>, AllocError>
+    ensures is { IfOk result (λ t. (answered_text t ≡ verdict_text (verdict protocol.now)) × (is_ok t ≡ is_accepted (verdict protocol.now))) }
+    ensures drawn { IfOk result (λ t. RepeatsDrawn protocol.now (answered_text t) (is_ok t)) }
+    ensures only { IfOk result (λ t. RepeatsOnlyDrawn protocol.now (answered_text t) (is_ok t)) }
 {
-    match check(heap, protocol)? {
-        Checked::Accepted {
-            names,
-            parties,
-            opened,
-            order,
-        } => {
-            let text = texts::summary_text(heap, names, parties, opened, numbers(&order))?;
-            Ok((text, true))
-        }
-        Checked::Refused(why) => {
-            let text = refused_text(heap, why)?;
-            Ok((text, false))
-        }
-    }
-}
-
-// The numbers of an order, if there is one.
-fn numbers(order: &Option<Vec<u16>>) -> Option<&[u16]>
-    ensures { option_map (λ x. x.now) result ≡ option_map vec_items order.now }
-{
-    match order {
-        Some(numbers) => Some(numbers.as_slice()),
-        None => None,
-    }
-}
-
-fn refused_text(heap: Global, why: Refusal) -> Result<String, AllocError>
-    ensures { IfOk result (λ s. string_bytes s ≡ refused_line why) }
-{
-    let number = why.number();
-    let place = why.place();
-    let mut text = String::new(heap);
-    match write!(text, "refused {number} at {place}\n") {
-        Ok(()) => Ok(text),
-        Err(_) => Err(AllocError),
+    match check(heap, protocol) {
+        Ok(accepted) => Ok(Ok(accepted.text(heap)?)),
+        Err(CheckError::Refused(why)) => Ok(Err(format!(in heap; "{why}\n")?)),
+        Err(CheckError::NoMemory(none)) => Err(none),
     }
 }

@@ -1,85 +1,55 @@
-// The third pass: each opening gives its party's seal, and a party opened. And the sum of the opened parties' bits.
-ghost use Rattle.std.specs.Prelude.{◌≡◌, ◌+◌, ◌^◌, ◌<◌, map, length, drop};
-ghost use Rattle.protocol.specs.Check.{first_of, hash_of, wrong_opening, party_fault, opened_count, seal_fault};
-ghost use Rattle.protocol.specs.Laid.{LaidOut};
-ghost use Rattle.protocol.specs.Layout.{party_in, party_count, parties_of};
-ghost use Rattle.protocol.specs.Protocol.{openings};
-ghost use Rattle.sum.specs.Sums.{sum_from};
+// The third pass: each opening gives its party's seal, and a party opened.
+ghost use Rattle.std.specs.Prelude.{◌≡◌};
+ghost use Rattle.protocol.specs.Check.{first_of, hash_of, party_fault, opened_count, seal_fault};
+ghost use Rattle.protocol.specs.Layout.{party_count};
+ghost use Rattle.refusals.specs.declared.Refusal.TheVariants.{BadOpening};
+ghost use Rattle.std.specs.Option.{option_map};
+ghost use Rattle.std.specs.Result.{result_err};
 
-use crate::bytes::{byte_at, part, same};
-use crate::layout::{Layout, party_end};
-use seals::{SALT, SEAL, seal};
+use crate::layout::Layout;
+use crate::parties::Party;
+use refusals::Refusal;
+use seals::seal;
 
-const NONE_OPENED: u8 = 255;
-
-// Whether the party at a place opened, and its opening does not give its seal.
-fn is_wrong(hash: &[u8], bytes: &[u8], at: usize, length: u16, party: u8) -> bool
-    requires { at < 2 ^ 63 }
-    ensures { result ≡ wrong_opening hash.now party (party_in bytes.now length at) }
+// The opening of a party gives its seal, if it opened.
+fn check_opening(hash: &[u8], party: &Party) -> Result<(), Refusal>
+    ensures { result_err result ≡ option_map (λ k. BadOpening k) (party_fault hash.now party.now.bytes.now party.now.number) }
 {
-    if byte_at(bytes, at + SEAL) != 1 {
-        return false;
+    let Some(opening) = party.opening() else {
+        return Ok(());
+    };
+    if seal(hash, party.number, opening).as_slice() != party.seal() {
+        return Err(Refusal::BadOpening(party.number));
     }
-    let opening = part(bytes, at + SEAL + 1, SALT + length as usize);
-    !same(&seal(hash, party, opening), part(bytes, at, SEAL))
+    Ok(())
 }
 
-fn first_wrong(bytes: &[u8], layout: Layout) -> Option<u8>
-    requires { LaidOut bytes.now layout }
-    ensures { result ≡ first_of (party_fault (hash_of bytes.now) bytes.now) (party_count bytes.now) }
+fn check_openings(layout: &Layout) -> Result<(), Refusal>
+    ensures { result_err result ≡ option_map (λ k. BadOpening k) (first_of (party_fault (hash_of layout.now.bytes.now) layout.now.bytes.now) (party_count layout.now.bytes.now)) }
 {
-    let hash = sha256::hash(part(bytes, 2, layout.length_at - 2));
-    let mut at = layout.length_at + 3;
-    for party in 0..layout.parties {
-        if is_wrong(&hash, bytes, at, layout.length, party) {
-            return Some(party);
-        }
-        at = party_end(bytes, at, layout.length);
+    let hash = layout.list_hash();
+    for party in layout.each_party() {
+        check_opening(&hash, &party)?;
     }
-    None
+    Ok(())
 }
 
 // How many parties opened.
-pub(crate) fn opened_count(bytes: &[u8], layout: Layout) -> u8
-    requires { LaidOut bytes.now layout }
-    ensures { result ≡ opened_count bytes.now }
+pub(crate) fn opened_count(layout: &Layout) -> u8
+    ensures { result ≡ opened_count layout.now.bytes.now }
 {
-    let mut opened = 0;
-    let mut at = layout.length_at + 3;
-    for _k in 0..layout.parties {
-        opened += u8::from(byte_at(bytes, at + SEAL) == 1);
-        at = party_end(bytes, at, layout.length);
-    }
-    opened
+    layout
+        .each_party()
+        .filter(|party| party.has_opened())
+        .count() as u8
 }
 
-pub(crate) fn seal_fault(bytes: &[u8], layout: Layout) -> Option<u8>
-    requires { LaidOut bytes.now layout }
-    ensures { result ≡ seal_fault bytes.now }
+pub(crate) fn check_seals(layout: &Layout) -> Result<(), Refusal>
+    ensures { result_err result ≡ seal_fault layout.now.bytes.now }
 {
-    let wrong = first_wrong(bytes, layout);
-    if wrong.is_some() {
-        return wrong;
+    check_openings(layout)?;
+    if opened_count(layout) == 0 {
+        return Err(Refusal::NoneOpened);
     }
-    if opened_count(bytes, layout) == 0 {
-        return Some(NONE_OPENED);
-    }
-    None
-}
-
-// Adds the bits of each party that opened to the sum.
-pub(crate) fn add_bits(sum: &mut [u8], bytes: &[u8], layout: Layout)
-    requires { LaidOut bytes.now layout }
-    ensures { sum.new ≡ sum_from sum.old (map (drop 32) (openings (parties_of bytes.now))) }
-{
-    let mut at = layout.length_at + 3;
-    for _k in 0..layout.parties {
-        if byte_at(bytes, at + SEAL) == 1 {
-            sum::add(
-                sum,
-                part(bytes, at + SEAL + 1 + SALT, layout.length as usize),
-            );
-        }
-        at = party_end(bytes, at, layout.length);
-    }
+    Ok(())
 }

@@ -1,101 +1,65 @@
 // The fourth pass: the order is the one drawn from the sum of the opened parties' bits, and the word says whether there is
 // one.
-ghost use Rattle.std.specs.Prelude.{◌≡◌, ◌+◌, ◌*◌, ◌^◌, ◌<◌, map, length, drop, IfSome, IfOk, vec_items, vec_len};
+ghost use Rattle.std.specs.Prelude.{◌≡◌, ◌+◌, ◌*◌, ◌^◌, ◌<◌, length, IfOk};
 ghost use Rattle.protocol.specs.Check.{drawing_of, order_fault};
-ghost use Rattle.protocol.specs.Laid.{LaidOut};
-ghost use Rattle.protocol.specs.Layout.{bits_length, parties_of, numbers_at, order_at};
-ghost use Rattle.protocol.specs.Numbers.{bits_read};
-ghost use Rattle.protocol.specs.Protocol.{openings, ordered};
+ghost use Rattle.protocol.specs.Found.{drawing};
+ghost use Rattle.protocol.specs.Layout.{numbers_at};
+ghost use Rattle.protocol.specs.Protocol.{ordered};
+ghost use Rattle.refusals.specs.declared.Refusal.TheVariants.{WrongOrder};
 ghost use Rattle.std.specs.Option.{option_map};
+ghost use Rattle.std.specs.Result.{result_err};
 ghost use Rattle.std.specs.Str.{bytes_eq};
-ghost use Rattle.sum.specs.Sums.{sum_of};
 
-use crate::bytes::{byte_at, word_at};
 use crate::layout::Layout;
-use crate::openings::add_bits;
-use order::{Outcome, draw_order};
+use crate::sums::sum_of_bits;
+use crate::words::word_at;
+use order::draw_order;
+use parts::byte_at;
+use refusals::Refusal;
 use std::alloc::{AllocError, Global};
 
-// The sum of the opened parties' bits.
-fn sum_of_bits(heap: Global, bytes: &[u8], layout: Layout) -> Result<Vec<u8>, AllocError>
-    requires { LaidOut bytes.now layout }
-    ensures { IfOk result (λ v. v.items ≡ sum_of (bits_length bytes.now) (map (drop 32) (openings (parties_of bytes.now)))) }
-{
-    let mut sum = vec![in heap; 0; layout.length as usize]?;
-    add_bits(&mut sum, bytes, layout);
-    Ok(sum)
+// An order, and how many bits are used for it.
+#[derive(Drop)]
+pub(crate) struct Drawn {
+    pub order: Vec<u16>,
+    pub used: usize,
 }
 
 // The order that is drawn, if there is one.
-pub(crate) fn draw(
-    heap: Global,
-    bytes: &[u8],
-    layout: Layout,
-) -> Result<Option<Vec<u16>>, AllocError>
-    requires { LaidOut bytes.now layout }
-    ensures is { IfOk result (λ o. option_map vec_items o ≡ ordered (drawing_of bytes.now)) }
-    ensures long { IfOk result (λ o. IfSome o (λ v. vec_len v ≡ layout.names)) }
+pub(crate) fn draw(heap: Global, layout: &Layout) -> Result<Option<Drawn>, AllocError>
+    ensures { IfOk result (λ d. drawing d ≡ drawing_of layout.now.bytes.now) }
 {
-    let sum = sum_of_bits(heap, bytes, layout)?;
+    let sum = sum_of_bits(heap, layout)?;
     let mut order = vec![in heap; 0; layout.names as usize]?;
-    match draw_order(&mut order, &sum, 0) {
-        Outcome::Drawn { .. } => Ok(Some(order)),
-        Outcome::RunOut => Ok(None),
-    }
-}
-
-// How many bits are read for the order that is drawn, if there is one.
-pub(crate) fn bits_read(
-    heap: Global,
-    bytes: &[u8],
-    layout: Layout,
-) -> Result<Option<usize>, AllocError>
-    requires { LaidOut bytes.now layout }
-    ensures { IfOk result (λ u. u ≡ bits_read (drawing_of bytes.now)) }
-{
-    let sum = sum_of_bits(heap, bytes, layout)?;
-    let mut order = vec![in heap; 0; layout.names as usize]?;
-    match draw_order(&mut order, &sum, 0) {
-        Outcome::Drawn { used } => Ok(Some(used)),
-        Outcome::RunOut => Ok(None),
-    }
+    let Some(used) = draw_order(&mut order, &sum, 0) else {
+        return Ok(None);
+    };
+    Ok(Some(Drawn { order, used }))
 }
 
 // Whether the numbers from a place on are those of the order.
 fn is_order(bytes: &[u8], at: usize, order: &[u16]) -> bool
-    requires { at + 2 * length order.now + 1 < 2 ^ 64 }
+    requires { at < 2 ^ 34 }
     ensures { result ≡ bytes_eq (numbers_at bytes.now at (length order.now)) order.now }
 {
-    for (k, number) in order.iter().enumerate() {
-        if word_at(bytes, at + 2 * k) != *number {
-            return false;
-        }
-    }
-    true
+    let numbers = (0..order.len()).map(|k| word_at(bytes, at + 2 * k));
+    numbers.zip(order).all(|(told, drawn)| told == *drawn)
 }
 
-// What is wrong with the word at a place or the order behind it.
-pub(crate) fn order_fault(bytes: &[u8], at: usize, order: &Option<Vec<u16>>) -> Option<usize>
-    requires place { at ≡ order_at bytes.now }
-    requires far { at < 2 ^ 33 }
-    requires long { IfSome order.now (λ v. vec_len v < 2 ^ 16) }
-    ensures { result ≡ order_fault bytes.now (option_map vec_items order.now) }
+// Whether the word is 1 and the order behind it is the one drawn, or the word is 0 and none is drawn.
+pub(crate) fn check_order(layout: &Layout, drawn: &Option<Drawn>) -> Result<(), Refusal>
+    ensures { result_err result ≡ option_map (λ at. WrongOrder at) (order_fault layout.now.bytes.now (ordered (drawing drawn.now))) }
 {
-    let word = byte_at(bytes, at);
-    match order {
-        None => {
-            if word == 0 {
-                return None;
+    let at = layout.order_at;
+    let word = byte_at(layout.bytes, at);
+    match drawn {
+        Some(drawn) if word == 1 => {
+            if !is_order(layout.bytes, at + 1, drawn.order.as_slice()) {
+                return Err(Refusal::WrongOrder(at + 1));
             }
+            Ok(())
         }
-        Some(numbers) => {
-            if word == 1 {
-                if is_order(bytes, at + 1, numbers.as_slice()) {
-                    return None;
-                }
-                return Some(at + 1);
-            }
-        }
+        None if word == 0 => Ok(()),
+        _ => Err(Refusal::WrongOrder(at)),
     }
-    Some(at)
 }

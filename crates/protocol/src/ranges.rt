@@ -1,99 +1,75 @@
 // The second pass: counts, lengths, names and the bytes that tell whether a party opened are in range, and names are
-// sorted. Each function answers with the place of the first that is not.
-ghost use Rattle.std.specs.Prelude.{◌≡◌, ◌+◌, ◌^◌, ◌<◌};
-ghost use Rattle.entries.specs.Rows.{row_order};
+// sorted. The place of the first that is not is told.
+ghost use Rattle.std.specs.Prelude.{◌≡◌};
 ghost use Rattle.protocol.specs.Check.{first_of, fault_in_name, name_fault, opened_fault, range_fault};
-ghost use Rattle.protocol.specs.Laid.{LaidOut};
-ghost use Rattle.protocol.specs.Layout.{name_in, party_count};
-ghost use Rattle.std.specs.Ordering.{is_lt};
+ghost use Rattle.protocol.specs.Layout.{name_count, name_at, party_count};
+ghost use Rattle.refusals.specs.declared.Refusal.TheVariants.{OutOfRange};
+ghost use Rattle.std.specs.Option.{option_map};
+ghost use Rattle.std.specs.Result.{result_err};
 
-use crate::bytes::{byte_at, part};
-use crate::layout::{Layout, party_end};
+use crate::layout::Layout;
+use crate::names::Name;
+use crate::parties::Party;
 use entries::{LONGEST_NAME, MOST_NAMES};
-use std::cmp::Ordering;
+use refusals::Refusal;
+use seals::{LEAST_BITS, MOST_BITS};
 
-const LEAST_BITS: u16 = 64;
-
-const MOST_BITS: u16 = 8192;
-
-// The name that stands at a place, after its length.
-pub(crate) fn name_at(bytes: &[u8], at: usize) -> &[u8]
-    requires { at + 1 < 2 ^ 64 }
-    ensures { result.now ≡ name_in bytes.now at }
+fn check_name(name: &Name, before: &[u8]) -> Result<(), Refusal>
+    ensures { result_err result ≡ option_map (λ at. OutOfRange at) (fault_in_name name.now.bytes.now (name_at name.now.bytes.now name.now.number) before.now) }
 {
-    part(bytes, at + 1, byte_at(bytes, at) as usize)
-}
-
-fn is_above(before: &[u8], name: &[u8]) -> bool
-    ensures { result ≡ is_lt (row_order before.now name.now) }
-{
-    match before.cmp(&name) {
-        Ordering::Less => true,
-        Ordering::Equal | Ordering::Greater => false,
-    }
-}
-
-// What is wrong with the name at a place.
-fn name_fault(bytes: &[u8], at: usize, before: &[u8]) -> Option<usize>
-    requires { at + 1 < 2 ^ 64 }
-    ensures { result ≡ fault_in_name bytes.now at before.now }
-{
-    let length = byte_at(bytes, at) as usize;
+    let length = name.length() as usize;
     if length < 1 || length > LONGEST_NAME {
-        return Some(at);
+        return Err(Refusal::OutOfRange(name.at));
     }
-    if !is_above(before, name_at(bytes, at)) {
-        return Some(at + 1);
+    if before < name.text() {
+        return Ok(());
     }
-    None
+    Err(Refusal::OutOfRange(name.at + 1))
 }
 
-fn names_fault(bytes: &[u8], names: u16) -> Option<usize>
-    ensures { result ≡ first_of (name_fault bytes.now) names }
+fn check_names(layout: &Layout) -> Result<(), Refusal>
+    ensures { result_err result ≡ option_map (λ at. OutOfRange at) (first_of (name_fault layout.now.bytes.now) (name_count layout.now.bytes.now)) }
 {
-    let mut at = 2;
-    let mut before = &bytes[0..0];
-    for _k in 0..names {
-        let fault = name_fault(bytes, at, before);
-        if fault.is_some() {
-            return fault;
-        }
-        before = name_at(bytes, at);
-        at += 1 + byte_at(bytes, at) as usize;
+    let mut name = Name::first(layout.bytes);
+    let mut before = &layout.bytes[0..0];
+    for _k in 0..layout.names {
+        check_name(&name, before)?;
+        before = name.text();
+        name = name.following();
     }
-    None
+    Ok(())
 }
 
-fn opened_fault(bytes: &[u8], layout: Layout) -> Option<usize>
-    requires { LaidOut bytes.now layout }
-    ensures { result ≡ first_of (opened_fault bytes.now) (party_count bytes.now) }
+fn check_mark(party: &Party) -> Result<(), Refusal>
+    ensures { result_err result ≡ option_map (λ at. OutOfRange at) (opened_fault party.now.bytes.now party.now.number) }
 {
-    let mut at = layout.length_at + 3;
-    for _k in 0..layout.parties {
-        if byte_at(bytes, at + 32) > 1 {
-            return Some(at + 32);
-        }
-        at = party_end(bytes, at, layout.length);
+    if party.mark() > 1 {
+        return Err(Refusal::OutOfRange(party.mark_at()));
     }
-    None
+    Ok(())
 }
 
-pub(crate) fn range_fault(bytes: &[u8], layout: Layout) -> Option<usize>
-    requires { LaidOut bytes.now layout }
-    ensures { result ≡ range_fault bytes.now }
+fn check_marks(layout: &Layout) -> Result<(), Refusal>
+    ensures { result_err result ≡ option_map (λ at. OutOfRange at) (first_of (opened_fault layout.now.bytes.now) (party_count layout.now.bytes.now)) }
+{
+    for party in layout.each_party() {
+        check_mark(&party)?;
+    }
+    Ok(())
+}
+
+pub(crate) fn check_ranges(layout: &Layout) -> Result<(), Refusal>
+    ensures { result_err result ≡ option_map (λ at. OutOfRange at) (range_fault layout.now.bytes.now) }
 {
     if layout.names < 1 || layout.names > MOST_NAMES {
-        return Some(0);
+        return Err(Refusal::OutOfRange(0));
     }
-    let fault = names_fault(bytes, layout.names);
-    if fault.is_some() {
-        return fault;
-    }
+    check_names(layout)?;
     if layout.length < LEAST_BITS || layout.length > MOST_BITS {
-        return Some(layout.length_at);
+        return Err(Refusal::OutOfRange(layout.length_at));
     }
     if layout.parties == 0 {
-        return Some(layout.length_at + 2);
+        return Err(Refusal::OutOfRange(layout.length_at + 2));
     }
-    opened_fault(bytes, layout)
+    check_marks(layout)
 }

@@ -13,7 +13,10 @@ const USAGE: &str = "usage: repeat PROTOCOL";
 // Prints what is to be said of the protocol in a file, and answers whether it is accepted.
 fn repeat(rt: &HostRuntime, path: &str) -> anyhow::Result<bool> {
     let protocol = fs::read(rt, path).context(format_args!("cannot read {path}"))?;
-    let (text, accepted) = repeat_text(rt.alloc(), protocol.as_slice())?;
+    let (text, accepted) = match repeat_text(rt.alloc(), protocol.as_slice())? {
+        Ok(text) => (text, true),
+        Err(text) => (text, false),
+    };
     rt.print(text.as_str())?;
     Ok(accepted)
 }

@@ -1,28 +1,47 @@
-use Rattle.std.proofs.Common.{vec_items, arith}
+use Rattle.std.proofs.Common.{◌≡◌, ℕ, List, Option, Some, vec_items, refl, sym, ap, ◌∙◌, arith, rules}
 use Rattle.std.specs.Option.{option_map}
-use Rattle.protocol.proofs.AcceptsDrawn.{accepts_drawn}
-use Rattle.protocol.proofs.AcceptsOnlyDrawn.{accepts_only_drawn}
+use Rattle.std.proofs.lemmas.Result.{err_from_is_err_and}
+use Rattle.refusals.specs.declared.Refusal.TheVariants.{WrongOrder}
+use Rattle.protocol.specs.Check.{refused, answered, early_fault, drawing_of, order_fault, opened_count}
+use Rattle.protocol.specs.Found.{drawing}
+use Rattle.protocol.specs.Layout.{name_count, party_count}
+use Rattle.protocol.specs.Protocol.{ordered}
+use Rattle.protocol.proofs.Answered.{promised}
 use Rattle.protocol.proofs.Verdicts.{verdict_early, verdict_late, verdict_accepted}
 use Rattle.protocol.proofs.check.Goals as goal
 
-pub returns-in-Some : goal.returns-in-Some
-returns-in-Some c =
-    let bytes = c.args.protocol.now in
-    let v = verdict_early bytes c.in-Some.why c.in-Some.ensures in
-    record { is = v; drawn = accepts_drawn bytes _ v; only = accepts_only_drawn bytes _ (λ i. omega (arith, c.type_inv.protocol i)) v }
+pub returns-in_err-check_early : goal.returns-in_err-check_early
+returns-in_err-check_early c =
+    let B = c.args.protocol.now in
+    let why = c.in_err-check_early.field-0.0 in
+    let p = err_from_is_err_and c.from_residual.result c.from_residual.ensures.1 in
+    let e = verdict_early B why (c.in_err-check_early.ensures ∙ ap early_fault c.of-layout.ensures) in
+    let q = promised B (answered c.from_residual.result) (refused why) (λ i. omega (arith, c.type_inv.protocol i)) (rw (p.1, p.2) refl) e in
+    record { is = q.is; drawn = q.drawn; only = q.only }
 
-pub returns-in-Some-order_fault : goal.returns-in-Some-order_fault
-returns-in-Some-order_fault c =
-    let bytes = c.args.protocol.now in
-    let v =
-    verdict_late bytes c.in_default.ensures (option_map vec_items c.in_ok-order.order) c.in_ok-order.ensures.is c.in-Some-order_fault.at c.in-Some-order_fault.ensures in
-    record { is = v; drawn = accepts_drawn bytes _ v; only = accepts_only_drawn bytes _ (λ i. omega (arith, c.type_inv.protocol i)) v }
+pub returns-in_err-check_order : goal.returns-in_err-check_order
+returns-in_err-check_order c =
+    let B = c.args.protocol.now in
+    let why = c.in_err-check_order.field-0.0 in
+    let drawn = c.in_ok-drawn.drawn in
+    let p = err_from_is_err_and c.from_residual-in_err-check_order.result c.from_residual-in_err-check_order.ensures.1 in
+    let e =
+    verdict_late B (c.in_ok-check_early.ensures ∙ ap early_fault c.of-layout.ensures) (ordered (drawing drawn)) (ap ordered (c.in_ok-drawn.ensures ∙ ap drawing_of c.of-layout.ensures)) (Some why)
+    (c.in_err-check_order.ensures ∙ ap (λ (b : List ℕ). option_map (λ at. WrongOrder at) (order_fault b (ordered (drawing drawn)))) c.of-layout.ensures) in
+    let q = promised B (answered c.from_residual-in_err-check_order.result) (refused why) (λ i. omega (arith, c.type_inv.protocol i)) (rw (p.1, p.2) refl) e in
+    record { is = q.is; drawn = q.drawn; only = q.only }
 
 pub returns : goal.returns
 returns c =
-    let bytes = c.args.protocol.now in
-    let laid = c.of-layout.ensures in
-    let v =
-    verdict_accepted bytes c.in_default.ensures (option_map vec_items c.in_ok-order.order) c.in_ok-order.ensures.is
-    c.of-layout.result.names c.of-layout.result.parties c.opened_count-opened.result c.in_default-order_fault.ensures laid.names laid.parties c.opened_count-opened.ensures in
-    record { is = v; drawn = accepts_drawn bytes _ v; only = accepts_only_drawn bytes _ (λ i. omega (arith, c.type_inv.protocol i)) v }
+    let B = c.args.protocol.now in
+    let laid = c.of-layout.result.laid_out in
+    let drawn = c.in_ok-drawn.drawn in
+    let same = c.of-layout.ensures in
+    let o : option_map vec_items c.map.result ≡ ordered (drawing drawn) = search rules in
+    let e =
+    verdict_accepted B (c.in_ok-check_early.ensures ∙ ap early_fault same) (option_map vec_items c.map.result) (o ∙ ap ordered (c.in_ok-drawn.ensures ∙ ap drawing_of same))
+    c.of-layout.result.names c.of-layout.result.parties c.opened_count.result
+    (c.in_ok-check_order.ensures ∙ (ap (λ (b : List ℕ). option_map (λ at. WrongOrder at) (order_fault b (ordered (drawing drawn)))) same ∙ ap (λ (z : Option (List ℕ)). option_map (λ at. WrongOrder at) (order_fault B z)) (sym o)))
+    (laid.names_are ∙ ap name_count same) (laid.parties_are ∙ ap party_count same) (c.opened_count.ensures ∙ ap opened_count same) in
+    let q = promised B (Some _) _ (λ i. omega (arith, c.type_inv.protocol i)) refl e in
+    record { is = q.is; drawn = q.drawn; only = q.only }

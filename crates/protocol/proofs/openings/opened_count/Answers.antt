@@ -1,22 +1,32 @@
-use Rattle.std.proofs.Common.{ℕ, ◌+◌, ◌≤◌, Bool, true, false, eqb, length, sym, refl, ap, ◌∙◌, arith}
-use mir.Val.{bool_byte}
-use Rattle.protocol.proofs.Opened.{so_far, count_more}
-use Rattle.protocol.proofs.Walks.{party_first, party_step}
+use Rattle.std.proofs.Common.{◌≡◌, length, ap, ◌∙◌, inl, arith, rules}
+use Rattle.std.specs.List.{filter}
+use Rattle.std.proofs.lemmas.Iterator.Consumers.{YieldsList-from_first, YieldsList-from_filter, count_from_yields_List}
+use Rattle.protocol.specs.Layout.{party_count, opened_in}
+use Rattle.protocol.specs.Walk.{numbered, parties_between, parties_left}
+use Rattle.protocol.proofs.Opened.{opened_filter, few_opened}
+use Rattle.protocol.proofs.Turns.{turns}
 use Rattle.protocol.proofs.openings.opened_count.Goals as goal
 
-pub loop-k-init : goal.loop-k-init
-loop-k-init c = (party_first c.args.bytes.now _ c.requires.first, omega arith, refl, omega arith)
+counted : (c : goal.After-count) → c.count.result ≡ length (filter (λ p. opened_in p.0 p.1) (parties_between c.args.layout.now.bytes.now 0 (party_count c.args.layout.now.bytes.now)))
+counted c =
+    let B = c.args.layout.now.bytes.now in
+    count_from_yields_List c.filter.result c.count.result c.count.ensures.ran
+    (YieldsList-from_filter _ (λ p. opened_in p.0 p.1) (YieldsList-from_first numbered parties_left (parties_between B 0 (party_count B)) (cc)) c.filter.ensures.closure (λ x r q k. search rules))
 
-bool_small : (t : Bool) → bool_byte t ≤ 1
-bool_small true = omega arith
-bool_small false = omega arith
+pub count-requires-clause-fits : goal.count-requires-clause-fits
+count-requires-clause-fits c =
+    let B = c.args.layout.now.bytes.now in
+    let e : parties_left c.filter.result.iter ≡ parties_between B 0 (party_count B) = cc in
+    let few = c.args.layout.now.laid_out.few_parties in
+    let same = c.args.layout.now.laid_out.parties_are in
+    inl (omega (arith, ap length e, turns B (party_count B)))
 
-pub loop-k-preserved : goal.loop-k-preserved
-loop-k-preserved c =
-    let bytes = c.args.bytes.now in
-    let i = c.loop-k.invariant in (
-      party_step bytes c.loop-k.at c.loop-k._k c.args.layout.length c.party_end-at.result i.0 c.requires.bits c.party_end-at.ensures.is,
-      omega arith,
-      ap (λ (x : ℕ). x + c.from-opened.result) i.2 ∙ (ap (λ (x : ℕ). length (so_far bytes c.loop-k._k) + x) c.from-opened.ensures ∙ sym (count_more bytes c.loop-k._k c.loop-k.at c.args.layout.length c.byte_at.result i.0 c.requires.bits c.byte_at.ensures)),
-      omega (arith, bool_small (eqb c.byte_at.result 1)),
-    )
+pub overflow_cast-result : goal.overflow_cast-result
+overflow_cast-result c =
+    let B = c.args.layout.now.bytes.now in
+    let few = c.args.layout.now.laid_out.few_parties in
+    let same = c.args.layout.now.laid_out.parties_are in
+    omega (arith, counted c, few_opened B (party_count B))
+
+pub returns : goal.returns
+returns c = counted c ∙ opened_filter c.args.layout.now.bytes.now (party_count c.args.layout.now.bytes.now)

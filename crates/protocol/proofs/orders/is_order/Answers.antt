@@ -1,31 +1,19 @@
-use Rattle.std.proofs.Common.{◌≡◌, ℕ, ◌+◌, ◌*◌, Bool, true, false, List, length, get_or, sym, refl, ap, ◌∙◌, arith}
-use Rattle.std.specs.Str.{bytes_eq}
-use Rattle.std.proofs.lemmas.List.FromFn.{fill_by_all, get_or-map-range_with_len}
+use Rattle.std.proofs.Common.{ℕ, ◌+◌, ◌*◌, length, arith, rules, tests}
+use Rattle.std.proofs.lemmas.Bool.Decides.{same_from_decides}
+use Rattle.std.proofs.lemmas.Iterator.{YieldsList-from_range, YieldsList-from_slice, YieldsList-from_map, YieldsList-from_zip, same_from_all}
+use Rattle.std.proofs.lemmas.Iterator.Consumers.{YieldsList-at}
+use Rattle.std.proofs.lemmas.List.FromFn.{length-map-range_with_len}
 use Rattle.std.proofs.lemmas.Slice.Eq.{bytes_eq-Decides}
 use Rattle.protocol.specs.Layout.{word_at, numbers_at}
 use Rattle.protocol.proofs.orders.is_order.Goals as goal
 
-is_false : (t : Bool) → (t ≡ true → ⊥) → false ≡ t
-is_false true h = absurd (h refl)
-is_false false h = refl
-
-pub returns-then-word_at-number : goal.returns-then-word_at-number
-returns-then-word_at-number c =
-    let bytes = c.args.bytes.now in
-    let ns = c.args.order.now in
-    let at = c.args.at in
-    let k = c.loop-k.k in
-    let f : ℕ → ℕ = λ j. word_at bytes (at + 2 * j) in
-    is_false (bytes_eq (numbers_at bytes at (length ns)) ns)
-    (λ t.
-    let e = (bytes_eq-Decides (numbers_at bytes at (length ns)) ns).0 t in
-    c.if-word_at-number.true
-    (c.word_at.ensures ∙ (sym (get_or-map-range_with_len f 0 (length ns) k k 0 c.loop-k-test.true (omega arith)) ∙ ap (λ (z : List ℕ). get_or z k 0) e)))
-
 pub returns : goal.returns
 returns c =
-    let bytes = c.args.bytes.now in
     let ns = c.args.order.now in
-    let f : ℕ → ℕ = λ j. word_at bytes (c.args.at + 2 * j) in
-    let e = fill_by_all f ns (length ns) 0 refl (λ k h. c.loop-k.invariant k (omega arith)) in
-    sym ((bytes_eq-Decides (numbers_at bytes c.args.at (length ns)) ns).1 (sym e))
+    let f : ℕ → ℕ = λ k. word_at c.args.bytes.now (c.args.at + 2 * k) in
+    let n = numbers_at c.args.bytes.now c.args.at (length ns) in
+    same_from_decides _ _
+    (same_from_all c.all.new.self _ _ n ns c.all.ensures.ran
+    (YieldsList-from_zip (YieldsList-at c.zip.ensures.first (YieldsList-from_map _ f (YieldsList-from_range 0 (length ns) (length ns) (cc) (omega arith)) c.map-numbers.ensures.closure (λ x r q k. search rules))) (YieldsList-from_slice ns (cc)))
+    (length-map-range_with_len f 0 (length ns)) (λ x q k. search (rules, tests)) (λ x q k. search (rules, tests)))
+    (bytes_eq-Decides n ns)

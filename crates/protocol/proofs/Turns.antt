@@ -1,0 +1,32 @@
+-- A walk over the parties: which comes next, and what is found. Assumes nothing.
+use Rattle.std.proofs.Common.{◌≡◌, ℕ, ◌+◌, ◌-◌, ◌<◌, List, map, length, get_or, Some, None, Option, ap, ◌∙◌, arith}
+use Rattle.std.specs.List.{range_with_len}
+use Rattle.std.specs.Option.{option_map}
+use Rattle.std.proofs.lemmas.List.FromFn.{length-map-range_with_len, get_or-map-range_with_len}
+use Rattle.refusals.specs.declared.Refusal.{Refusal}
+use Rattle.protocol.specs.Check.{first_of}
+use Rattle.protocol.specs.Walk.{parties_between}
+use Rattle.protocol.proofs.Firsts.{refused_first, passed_on}
+
+module _ (bytes : List ℕ) (n : ℕ) where
+  abbrev at : ℕ → List ℕ × ℕ
+  at k = (bytes, k)
+
+  pub turns : length (parties_between bytes 0 n) ≡ n
+  turns = let e : length (map at (range_with_len 0 (n - 0))) ≡ n - 0 = length-map-range_with_len at 0 (n - 0) in omega (arith, e)
+
+  pub turn_is : (k : ℕ) (p : List ℕ × ℕ) → (k < length (parties_between bytes 0 n)) × (p ≡ get_or (parties_between bytes 0 n) k p) → (k < n) × (p ≡ (bytes, k))
+  turn_is k p h =
+      (omega (arith, h.0, turns), h.1 ∙ get_or-map-range_with_len at 0 (n - 0) k k p (omega (arith, h.0, turns)) (omega arith))
+
+  -- the first fault of a party, as the refusal that is answered
+  module _ (fault : List ℕ → ℕ → Option ℕ) (why : ℕ → Refusal) (k : ℕ) (p : List ℕ × ℕ)
+      (turn : (k < length (parties_between bytes 0 n)) × (p ≡ get_or (parties_between bytes 0 n) k p)) (none : first_of (fault bytes) k ≡ None) where
+    here : option_map why (fault p.0 p.1) ≡ option_map why (fault bytes k)
+    here = ap (λ (q : List ℕ × ℕ). option_map why (fault q.0 q.1)) (turn_is k p turn).1
+
+    pub turn_refused : (e : Refusal) → Some e ≡ option_map why (fault p.0 p.1) → Some e ≡ option_map why (first_of (fault bytes) n)
+    turn_refused e h = refused_first (fault bytes) why k n e (turn_is k p turn).0 none (h ∙ here)
+
+    pub turn_passed : None ≡ option_map why (fault p.0 p.1) → first_of (fault bytes) (k + 1) ≡ None
+    turn_passed h = passed_on (fault bytes) why k none (h ∙ here)
