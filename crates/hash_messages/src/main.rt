@@ -15,32 +15,16 @@ use std::{env, fs};
 fn first_message(bytes: &[u8]) -> Option<(&[u8], &[u8])>
     ensures { IfSome result (λ p. length p.1.now < length bytes.now) }
 {
-    let [a, b, c, d, rest @ ..] = bytes else {
-        return None;
-    };
-    let size = u32::from_le_bytes([*a, *b, *c, *d]) as usize;
-    if rest.len() < size {
-        return None;
-    }
-    Some(rest.split_at(size))
-}
-
-fn push_line(text: &mut String, hash: [u8; 32]) -> anyhow::Result<()> {
-    for byte in hash {
-        write!(text, "{byte:02x}")?;
-    }
-    text.push('\n')?;
-    Ok(())
+    let (size, rest) = bytes.split_first_chunk::<4>()?;
+    rest.split_at_checked(u32::from_le_bytes(*size) as usize)
 }
 
 fn hashes(heap: Global, bytes: &[u8]) -> anyhow::Result<String> {
     let mut text = String::new(heap);
     let mut left = bytes;
     while !left.is_empty() {
-        let Some((message, after)) = first_message(left) else {
-            bail!("the file ends inside a message");
-        };
-        push_line(&mut text, sha256::hash(message))?;
+        let (message, after) = first_message(left).context("the file ends inside a message")?;
+        writeln!(text, "{}", hex::encode(heap, sha256::hash(message))?)?;
         left = after;
     }
     Ok(text)

@@ -1,4 +1,4 @@
--- The padding as it is written, and that it goes by the length modulo 2 ^ 64.
+-- The padding goes by the length modulo 2 ^ 64.
 -- Assumes nothing.
 use Rattle.std.proofs.Common.{◌≡◌, ℕ, ◌-◌, ◌*◌, ◌%◌, ◌^◌, ◌∷◌, ◌++◌, replicate, ap, ◌∙◌, arith}
 use Rattle.sha256.specs.Padding.{eight_bytes, zeros, padding}

@@ -2,6 +2,8 @@
 // Each but the first begins with the hash of the one before, so that none can be left out, and the last hash is printed.
 #![tactic(auto)]
 
+ghost use Rattle.std.specs.Prelude.{◌≤◌, length};
+
 use anyhow::{Context, ensure};
 use program::finish;
 use std::env;
@@ -9,14 +11,13 @@ use std::process::ExitCode;
 
 const USAGE: &str = "usage: sha256_bench [COUNT [SIZE]], SIZE from 32 to 8192";
 
-fn last_hash(message: &mut [u8], count: u64) -> [u8; 32] {
+fn last_hash(message: &mut [u8], count: u64) -> [u8; 32]
+    requires { 32 ≤ length message.old }
+{
     let mut last = [0u8; 32];
     for _ in 0..count {
-        let hash = sha256::hash(message);
-        for (byte, new) in message.iter_mut().zip(hash) {
-            *byte = new;
-        }
-        last = hash;
+        last = sha256::hash(message);
+        message[0..32].copy_from_slice(&last);
     }
     last
 }
@@ -35,10 +36,8 @@ fn run(rt: &HostRuntime) -> anyhow::Result<bool> {
     let size = number(args.next(), 8192)?;
     ensure!((32..=8192).contains(&size), USAGE);
     let mut message = [97u8; 8192];
-    for byte in last_hash(&mut message[0..size as usize], count) {
-        print!(rt; "{byte:02x}")?;
-    }
-    println!(rt; "")?;
+    let hash = last_hash(&mut message[0..size as usize], count);
+    println!(rt; "{}", hex::encode(rt.alloc(), hash)?)?;
     Ok(true)
 }
 
