@@ -13,6 +13,7 @@ ghost use Rattle.entries.specs.Place.{place, place_for};
 ghost use Rattle.entries.specs.Entry.{slot_for, inserted_number, entered};
 ghost use Rattle.sha256.specs.Sha256.{sha256};
 
+use parts::{byte_at, part};
 use refusals::{Lent, Refusal};
 use sha256::Hasher;
 use std::cmp::Ordering;
@@ -36,11 +37,8 @@ fn name_in(slots: &[u8], slot: u16) -> &[u8]
     ensures is { result.now ≡ name_in slots.now slot }
     ensures short { length result.now < 256 }
 {
-    let at = slots.len().min(SLOT * slot as usize);
-    let Some((length, bytes)) = slots[at..].split_first() else {
-        return &slots[..0];
-    };
-    &bytes[..bytes.len().min(*length as usize)]
+    let at = SLOT * slot as usize;
+    part(slots, at + 1, byte_at(slots, at) as usize)
 }
 
 // Where a name belongs among those listed, or none where it is there. The halving is by hand: it answers for every

@@ -1,15 +1,7 @@
 -- The message that is sealed tells the opening. Assumes nothing.
-use Rattle.std.proofs.Common.{◌≡◌, ℕ, min, List, [], ◌∷◌, ◌++◌, length, take, drop, sym, refl, ap, ◌∙◌, append_assoc}
-use Rattle.std.proofs.lemmas.List.{take-append-drop, take_at, drop_at, append_cancel_left, length-take, take_min, drop_min}
+use Rattle.std.proofs.Common.{◌≡◌, ℕ, List, ◌∷◌, ◌++◌, length, take, drop, sym, refl, ap, ◌∙◌}
+use Rattle.std.proofs.lemmas.List.{take-append-drop, take_at, drop_at, append_cancel_left, length-take}
 use Rattle.seals.specs.Seal.{sealed_message, seal_of, TwoOpenings}
-
--- the message as it is hashed, part by part
-pub split_message : (context opening salt bits : List ℕ) (party n : ℕ) → n ≡ min 32 (length opening) → salt ≡ take n opening → bits ≡ drop n opening
-    → ((([] ++ salt) ++ context) ++ (party ∷ [])) ++ bits ≡ sealed_message context party opening
-split_message context opening salt bits party n e s b =
-    let t : salt ≡ take 32 opening = s ∙ (ap (λ (k : ℕ). take k opening) e ∙ take_min 32 opening) in
-    let d : bits ≡ drop 32 opening = b ∙ (ap (λ (k : ℕ). drop k opening) e ∙ drop_min 32 opening) in
-    simp (t, d, append_assoc)
 
 message_tells : (context x y : List ℕ) (party : ℕ) → length x ≡ length y → sealed_message context party x ≡ sealed_message context party y → x ≡ y
 message_tells context x y party l e =

@@ -12,6 +12,7 @@ ghost use Rattle.seals.specs.Seal.{seal_of, TwoOpenings};
 ghost use Rattle.seals.specs.Records.{record_size, has_opened, opened_count, seal_in};
 ghost use Rattle.seals.specs.Steps.{sealed, opened, opening_fault};
 
+use parts::{behind, byte_at, front, part};
 use refusals::{Lent, Refusal};
 use sha256::Hasher;
 
@@ -38,12 +39,12 @@ pub struct Parties<'a> {
 pub fn seal(context: &[u8], party: u8, opening: &[u8]) -> [u8; 32]
     ensures { result ≡ seal_of context.now party opening.now }
 {
-    let (salt, bits) = opening.split_at(SALT.min(opening.len()));
+    let salt = front(opening, SALT);
     let mut hasher = Hasher::new();
     hasher.update(salt);
     hasher.update(context);
     hasher.update(&[party]);
-    hasher.update(bits);
+    hasher.update(behind(opening, SALT));
     hasher.finish()
 }
 
@@ -68,8 +69,7 @@ impl Parties<'_> {
     pub fn has_opened(&self, party: u8) -> bool
         ensures { result ≡ has_opened self.now.records.now self.now.length party }
     {
-        let at = record_at(self.length, party) + SEAL;
-        self.records.get(at).is_some_and(|mark| *mark != 0)
+        byte_at(self.records, record_at(self.length, party) + SEAL) != 0
     }
 
     // How many parties have opened.
@@ -86,9 +86,7 @@ impl Parties<'_> {
     fn seal_in(&self, party: u8) -> &[u8]
         ensures { result.now ≡ seal_in self.now.records.now self.now.length party }
     {
-        let at = record_at(self.length, party).min(self.records.len());
-        let record = &self.records[at..];
-        &record[..SEAL.min(record.len())]
+        part(self.records, record_at(self.length, party), SEAL)
     }
 
     // One more seal, with room for its opening; a refusal changes nothing.
