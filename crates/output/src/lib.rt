@@ -1,11 +1,12 @@
 // Text and bytes written one after another into lent memory, which may be full.
 #![tactic(auto)]
 
-ghost use Rattle.std.specs.Prelude.{[], decimal, take, ◌∷◌, ◌≡◌, ◌<◌};
+ghost use Rattle.std.specs.Prelude.{[], take, ◌∷◌, ◌≡◌, ◌<◌};
 ghost use Rattle.output.specs.Hex.{hex, hex_digit};
 ghost use Rattle.output.specs.Laws.{Fitting, Told};
 ghost use Rattle.output.specs.Writes.{Writes};
 
+use itoa::{Buffer, Integer};
 use parts::front;
 
 mod growing;
@@ -53,10 +54,10 @@ impl Output<'_> {
     }
 
     // Writes a number in decimal digits.
-    pub fn put_decimal(&mut self, number: usize)
-        ensures { Writes self.old self.new (decimal number) }
+    pub fn put_decimal<N: Integer>(&mut self, number: N)
+        ensures { Writes self.old self.new (N.text number) }
     {
-        let mut digits = itoa::Buffer::new();
+        let mut digits = Buffer::new();
         self.put(digits.format(number).as_bytes());
     }
 
