@@ -4,12 +4,12 @@
 #![tactic(auto)]
 
 use anyhow::{Context, bail};
-use output::Output;
+use output::{Output, whole};
 use program::finish;
 use report_text::{put_place, put_report};
 use std::alloc::{AllocError, Global};
 use std::process::ExitCode;
-use std::{env, fs, io};
+use std::{env, fs};
 
 const USAGE: &str = "usage: report PROTOCOL [--find NAME]";
 
@@ -26,32 +26,18 @@ fn put(
     }
 }
 
-// Prints what there is to tell, and answers whether all is well. What is amiss goes to stderr. Where the text reaches the
-// end of the memory there may be more, so twice as much is lent.
+// Prints what there is to tell, and answers whether all is well. What is amiss goes to stderr.
 fn tell(rt: &HostRuntime, protocol: &[u8], name: Option<&String>) -> anyhow::Result<bool> {
-    let mut size = protocol.len().saturating_mul(8).saturating_add(256);
-    for _ in 0..64 {
-        let mut text = vec![in rt.alloc(); 0u8; size]?;
-        let mut out = Output {
-            memory: text.as_mut_slice(),
-            at: 0,
-        };
-        let well = put(rt.alloc(), &mut out, protocol, name)?;
-        if out.at < size {
-            print(rt, out.written(), well)?;
-            return Ok(well);
-        }
-        size = size.saturating_mul(2);
-    }
-    bail!("there is too much to tell")
-}
-
-fn print(rt: &HostRuntime, text: &[u8], well: bool) -> io::Result<()> {
+    let heap = rt.alloc();
+    let size = protocol.len().saturating_mul(8).saturating_add(256);
+    let (text, well) = whole(heap, size, |out| put(heap, out, protocol, name))?;
+    let well = well?;
     if well {
-        rt.write_all(text)
+        rt.write_all(text.as_slice())?;
     } else {
-        rt.stderr().write_all(text)
+        rt.stderr().write_all(text.as_slice())?;
     }
+    Ok(well)
 }
 
 fn run(rt: &HostRuntime) -> anyhow::Result<bool> {

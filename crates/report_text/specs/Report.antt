@@ -7,7 +7,7 @@ use Rattle.names_text.specs.Text.{is_text}
 use Rattle.output.specs.Hex.{hex}
 use Rattle.refusals.specs.Numbered.{number, place}
 use Rattle.refusals.specs.declared.Refusal.{Refusal}
-use Rattle.refusals.specs.declared.Refusal.TheVariants.{ProtocolLength, OutOfRange, BadOpening}
+use Rattle.refusals.specs.declared.Refusal.TheVariants.{ProtocolLength, OutOfRange, BadOpening, NoneOpened}
 use Rattle.protocol.specs.Check.{Verdict, accepted, refused, verdict, drawing_of, hash_of}
 use Rattle.protocol.specs.Layout.{name_of, opened_in, bits_length}
 use Rattle.protocol.specs.Numbers.{bits_read}
@@ -62,6 +62,7 @@ abbrev pub reason : Refusal → List ℕ
 reason (ProtocolLength at) = codes "the protocol ends too early, or goes on behind its end"
 reason (OutOfRange at) = codes "a count, a length, a name or an opened byte is out of range, or a name is not above the one before"
 reason (BadOpening party) = codes "the opening of this party does not give its seal, or, at 255, no party opened"
+reason NoneOpened = codes "the opening of this party does not give its seal, or, at 255, no party opened"
 reason why = codes "the order is not the one that is drawn from the openings"
 
 -- refused 12 at 5: and the reason

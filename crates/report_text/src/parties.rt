@@ -5,16 +5,16 @@ ghost use Rattle.protocol.specs.Layout.{bits_length};
 ghost use Rattle.report_text.specs.Report.{bits_line, bits_words, counts_line, hash_line, party_line, party_lines};
 
 use output::Output;
-use protocol::{bits_length, has_opened, list_hash};
+use protocol::{Accepted, bits_length, has_opened, list_hash};
 
-pub(crate) fn put_counts(out: &mut Output, names: u16, parties: u8, opened: u8)
-    ensures { Writes out.old out.new (counts_line names parties opened) }
+pub(crate) fn put_counts(out: &mut Output, accepted: &Accepted)
+    ensures { Writes out.old out.new (counts_line accepted.now.names accepted.now.parties accepted.now.opened) }
 {
-    out.put_decimal(names as usize);
+    out.put_decimal(accepted.names);
     out.put(b" names, ");
-    out.put_decimal(parties as usize);
+    out.put_decimal(accepted.parties);
     out.put(b" parties, ");
-    out.put_decimal(opened as usize);
+    out.put_decimal(accepted.opened);
     out.put(b" opened\n");
 }
 
@@ -22,7 +22,7 @@ fn put_party(out: &mut Output, protocol: &[u8], party: u8)
     ensures { Writes out.old out.new (party_line protocol.now party) }
 {
     out.put(b"party ");
-    out.put_decimal(party as usize);
+    out.put_decimal(party);
     if has_opened(protocol, party) {
         out.put(b" opened\n");
     } else {
@@ -64,6 +64,6 @@ pub(crate) fn put_bits(out: &mut Output, protocol: &[u8], used: Option<usize>)
     ensures { Writes out.old out.new (bits_line used (8 * bits_length protocol.now)) }
 {
     put_used(out, used);
-    out.put_decimal(8 * bits_length(protocol) as usize);
+    out.put_decimal(8 * usize::from(bits_length(protocol)));
     out.put(b"\n");
 }

@@ -14,7 +14,7 @@ fn reason(why: Refusal) -> &'static [u8]
         Refusal::ProtocolLength(_) => b"the protocol ends too early, or goes on behind its end",
         Refusal::OutOfRange(_) =>
             b"a count, a length, a name or an opened byte is out of range, or a name is not above the one before",
-        Refusal::BadOpening(_) =>
+        Refusal::BadOpening(_) | Refusal::NoneOpened =>
             b"the opening of this party does not give its seal, or, at 255, no party opened",
         _ => b"the order is not the one that is drawn from the openings",
     }
@@ -24,7 +24,7 @@ pub(crate) fn put_sentence(out: &mut Output, why: Refusal)
     ensures { Writes out.old out.new (sentence why) }
 {
     out.put(b"refused ");
-    out.put_decimal(why.number() as usize);
+    out.put_decimal(why.number());
     out.put(b" at ");
     out.put_decimal(why.place());
     out.put(b": ");

@@ -9,7 +9,7 @@ use crate::parties::{put_bits, put_counts, put_hash, put_parties};
 use crate::places::{find, put_line, put_places};
 use crate::refused::put_sentence;
 use output::Output;
-use protocol::{Checked, bits_used, check};
+use protocol::{Accepted, CheckError, bits_used, check};
 use refusals::Refusal;
 use std::alloc::{AllocError, Global};
 
@@ -42,25 +42,21 @@ pub fn put_report(
     ensures text { IfOk result (λ _. Writes out.old out.new (report protocol.now)) }
     ensures accepted { IfOk result (λ r. r ≡ accepted_or_refused (verdict protocol.now)) }
 {
-    match check(heap, protocol)? {
-        Checked::Accepted {
-            names,
-            parties,
-            opened,
-            order,
-        } => {
+    match check(heap, protocol) {
+        Ok(accepted) => {
             let used = bits_used(heap, protocol)?;
-            put_counts(out, names, parties, opened);
-            put_parties(out, protocol, parties);
+            put_counts(out, &accepted);
+            put_parties(out, protocol, accepted.parties);
             put_hash(out, protocol);
             put_bits(out, protocol, used);
-            put_order(out, protocol, &order);
+            put_order(out, protocol, &accepted.order);
             Ok(Ok(()))
         }
-        Checked::Refused(why) => {
+        Err(CheckError::Refused(why)) => {
             put_sentence(out, why);
             Ok(Err(why))
         }
+        Err(CheckError::NoMemory(none)) => Err(none),
     }
 }
 
@@ -72,13 +68,16 @@ fn place_for(
 ) -> Result<Result<usize, NoPlace>, AllocError>
     ensures { IfOk result (λ r. r ≡ place_for protocol.now name.now) }
 {
-    match check(heap, protocol)? {
-        Checked::Accepted {
-            order: Some(order),
-            ..
-        } => Ok(find(protocol, order.as_slice(), name).ok_or(NoPlace::NotInList)),
-        Checked::Accepted { order: None, .. } => Ok(Err(NoPlace::NoOrder)),
-        Checked::Refused(why) => Ok(Err(NoPlace::Refused(why))),
+    match check(heap, protocol) {
+        Ok(
+            Accepted {
+                order: Some(order),
+                ..
+            },
+        ) => Ok(find(protocol, order.as_slice(), name).ok_or(NoPlace::NotInList)),
+        Ok(Accepted { order: None, .. }) => Ok(Err(NoPlace::NoOrder)),
+        Err(CheckError::Refused(why)) => Ok(Err(NoPlace::Refused(why))),
+        Err(CheckError::NoMemory(none)) => Err(none),
     }
 }
 
