@@ -1,4 +1,4 @@
-use Rattle.std.proofs.Common.{[], refl, rules}
+use Rattle.std.proofs.Common.{[], rules}
 use Rattle.step_file.proofs.Walk.{once, shorter}
 use Rattle.step_file.proofs.StepsIterator.next.Goals as goal
 
@@ -6,12 +6,13 @@ pub returns-in-Ok-None-clause-steps : goal.returns-in-Ok-None-clause-steps
 returns-in-Ok-None-clause-steps c =
     let none = rw c.in-Ok-None.field-0-is at c.in-Ok-None.ensures in
     let file = rw (← none) at (once c.args.self.now.rest.now) in
-    (file.0, file.1, refl)
+    search rules
 
 pub returns-in-Ok-Some-clause-steps : goal.returns-in-Ok-Some-clause-steps
 returns-in-Ok-Some-clause-steps c =
     let first = rw c.in-Ok-Some.field-0-is at c.in-Ok-Some.ensures in
-    rw (← first) at (once c.args.self.now.rest.now)
+    let file = rw (← first) at (once c.args.self.now.rest.now) in
+    search rules
 
 pub returns-in-Ok-Some-clause-goes : goal.returns-in-Ok-Some-clause-goes
 returns-in-Ok-Some-clause-goes c =
@@ -23,4 +24,4 @@ pub returns-in-Err-clause-steps : goal.returns-in-Err-clause-steps
 returns-in-Err-clause-steps c =
     let file = rw (← c.in-Err.ensures) at (once c.args.self.now.rest.now) in
     let none = once [] in
-    (file.0, file.1, none.0, none.1)
+    search rules
