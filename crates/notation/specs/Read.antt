@@ -1,10 +1,8 @@
 -- A text read as a file of steps. Assumes nothing.
-use Rattle.std.specs.Prelude.{ℕ, ◌+◌, cond, List, [], ◌∷◌, ◌++◌, length, Ok, Err, Result, ◌==◌, nat_lt}
-use Rattle.output.specs.Output.{put}
+use Rattle.std.specs.Prelude.{ℕ, ◌+◌, cond, List, [], ◌∷◌, ◌++◌, length, ◌==◌, nat_lt}
 use Rattle.step_file.specs.File.{file_steps, step_bytes}
 use Rattle.notation.specs.declared.faults.Fault.{Fault}
 use Rattle.notation.specs.declared.faults.Fault.TheVariants.{NoOpening, LongStep, NoFile, LongFile}
-use Rattle.notation.specs.declared.faults.BadLine.{BadLine}
 use Rattle.notation.specs.Lines.{lines, without_return}
 use Rattle.notation.specs.Meanings.{Meaning, nothing, step, file, bad, meaning}
 
@@ -53,8 +51,3 @@ read_lines done (l ∷ ls) files = line_then done (λ left. read_lines (done + 1
 -- the contents of the files stand in a file of steps
 abbrev pub read_text : List ℕ → List ℕ → Answer
 read_text text files = read_lines 0 (lines text) (file_steps files)
-
--- the file in memory and the place behind it; on a bad line the memory is as it was
-abbrev pub answered : List ℕ → Answer → List ℕ × Result ℕ BadLine
-answered m (written x) = ((put (m, 0) x).0, Ok (put (m, 0) x).1)
-answered m (wrong n why) = (m, Err (record { line = n; fault = why }))

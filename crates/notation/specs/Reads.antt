@@ -21,7 +21,12 @@ abbrev pub ReadsLine : Meaning → Steps → Steps → Output → Output → Res
 ReadsLine meaning files left old new r =
     PutsLine (filled (file_steps files.rest.now) meaning).0 old new r × (file_steps left.rest.now ≡ (filled (file_steps files.rest.now) meaning).1)
 
--- one pass over a text: on a bad line, only that is told
+-- the file that a text writes is written; on a bad line, only that is told
+abbrev pub ReadsWhole : Answer → Output → Output → Result (Unit {0}) BadLine → Type 0
+ReadsWhole answer old new (Ok u) = (x : List ℕ) × (answer ≡ written x) × Writes old new x
+ReadsWhole answer old new (Err b) = (answer ≡ wrong b.line b.fault) × (new ≡ old)
+
+-- one pass over a text, which may have written the steps before the first bad line
 abbrev pub Reads : Answer → Output → Output → Result (Unit {0}) BadLine → Type 0
 Reads answer old new (Ok u) = (x : List ℕ) × (answer ≡ written x) × Writes old new x
 Reads answer old new (Err b) = (answer ≡ wrong b.line b.fault) × (new.memory.ghost_name ≡ old.memory.ghost_name)

@@ -3,7 +3,6 @@ use Rattle.std.specs.Prelude.{◌≡◌, ℕ, ◌+◌, ◌*◌, true, false, con
 use Rattle.std.specs.List.{flat_map}
 use Rattle.names_text.specs.Text.{is_text}
 use Rattle.output.specs.Hex.{hex}
-use Rattle.output.specs.Output.{put}
 use Rattle.output.specs.Writes.{Writes}
 use Rattle.output.specs.declared.Output.{Output}
 use Rattle.step_file.specs.declared.CutShort.{CutShort}
@@ -44,11 +43,12 @@ line_shown (kind, x) = words (form_shown kind x) ++ (rest_shown (form_shown kind
 abbrev pub text_of : List ℕ → List ℕ
 text_of file = flat_map line_shown (file_steps file)
 
--- the text in memory and the place behind it; nothing where the file ends inside a step
-abbrev pub shown_into : List ℕ → List ℕ → List ℕ × Result ℕ CutShort
-shown_into m file = cond (file_cut file) (m, Err (record {})) ((put (m, 0) (text_of file)).0, Ok (put (m, 0) (text_of file)).1)
+-- the text is written; where the file ends inside a step, only that is told
+abbrev pub ShowsWhole : List ℕ → Output → Output → Result (Unit {0}) CutShort → Type 0
+ShowsWhole file old new (Ok u) = (file_cut file ≡ false) × Writes old new (text_of file)
+ShowsWhole file old new (Err e) = (file_cut file ≡ true) × (new ≡ old)
 
--- one pass over a file: where it ends inside a step, only that is told
+-- one pass over a file, which may have written the lines before the place where the file ends
 abbrev pub Shows : List ℕ → Output → Output → Result (Unit {0}) CutShort → Type 0
 Shows file old new (Ok u) = (file_cut file ≡ false) × Writes old new (text_of file)
 Shows file old new (Err e) = (file_cut file ≡ true) × (new.memory.ghost_name ≡ old.memory.ghost_name)

@@ -11,7 +11,7 @@ use std::fmt;
 // step that are not there or not as they should be; a step or a file that is too long; a file that is not there.
 #[derive(Clone, Copy, Debug, PartialEq, Eq)]
 pub enum Fault {
-    NoForm,
+    NoForm = 1,
     NoName,
     NoDigits,
     NoSeal,
@@ -29,19 +29,7 @@ impl Fault {
     pub fn number(self) -> u8
         ensures { result ≡ number_of self }
     {
-        match self {
-            Fault::NoForm => 1,
-            Fault::NoName => 2,
-            Fault::NoDigits => 3,
-            Fault::NoSeal => 4,
-            Fault::NoList => 5,
-            Fault::NoParty => 6,
-            Fault::NoOpening => 7,
-            Fault::NoKind => 8,
-            Fault::LongStep => 9,
-            Fault::NoFile => 10,
-            Fault::LongFile => 11,
-        }
+        self as u8
     }
 
     fn words(self) -> &'static str

@@ -17,8 +17,9 @@
 
 ghost use Rattle.std.specs.Prelude.{◌≡◌, false, []};
 ghost use Rattle.notation.specs.Laws.{ShownRead, WholeRead};
-ghost use Rattle.notation.specs.Read.{read_text, written, answered};
-ghost use Rattle.notation.specs.Shown.{text_of, shown_into};
+ghost use Rattle.notation.specs.Read.{read_text, written};
+ghost use Rattle.notation.specs.Reads.{ReadsWhole};
+ghost use Rattle.notation.specs.Shown.{text_of, ShowsWhole};
 ghost use Rattle.step_file.specs.File.{file_cut};
 
 pub use faults::{BadLine, Fault, put_bad_line};
@@ -40,37 +41,33 @@ use reading::put_steps;
 use shown::put_lines;
 use step_file::CutShort;
 
-// Writes the text of a file of steps, and answers with the place behind it; where the file ends inside a step, nothing is
-// written. So a pass over no memory comes first.
-pub fn show(file: &[u8], out: &mut [u8]) -> Result<usize, CutShort>
-    ensures is { (out.new, result) ≡ shown_into out.old file.now }
-    ensures again { file_cut file.now ≡ false → read_text (text_of file.now) [] ≡ written file.now }
-{
-    let mut nowhere = Output {
+// No memory, for a pass that only looks.
+fn nowhere<'a>() -> Output<'a> {
+    Output {
         memory: &mut [],
         at: 0,
-    };
-    put_lines(file, &mut nowhere)?;
-    let mut output = Output { memory: out, at: 0 };
-    put_lines(file, &mut output)?;
-    Ok(output.at)
+    }
 }
 
-// Writes the file of steps that a text says, and answers with the place behind it; or answers with the first bad line, and
-// nothing is written. So a pass over no memory comes first. The contents of the files that lines name stand in `files`, in
-// the order of those lines, as a file of steps, one for each.
-pub fn read<'a>(text: &'a [u8], files: &'a [u8], out: &mut [u8]) -> Result<usize, BadLine>
-    ensures is { (out.new, result) ≡ answered out.old (read_text text.now files.now) }
+// Writes the text of a file of steps; where the file ends inside a step, nothing is written. So a pass over no memory comes
+// first.
+pub fn show(file: &[u8], out: &mut Output) -> Result<(), CutShort>
+    ensures is { ShowsWhole file.now out.old out.new result }
+    ensures again { file_cut file.now ≡ false → read_text (text_of file.now) [] ≡ written file.now }
+{
+    put_lines(file, &mut nowhere())?;
+    put_lines(file, out)
+}
+
+// Writes the file of steps that a text says, or answers with the first bad line, and nothing is written. So a pass over no
+// memory comes first. The contents of the files that lines name stand in `files`, in the order of those lines, as a file of
+// steps, one for each.
+pub fn read(text: &[u8], files: &[u8], out: &mut Output) -> Result<(), BadLine>
+    ensures is { ReadsWhole (read_text text.now files.now) out.old out.new result }
     ensures whole { WholeRead text.now files.now }
 {
-    let mut nowhere = Output {
-        memory: &mut [],
-        at: 0,
-    };
-    put_steps(text, files, &mut nowhere)?;
-    let mut output = Output { memory: out, at: 0 };
-    put_steps(text, files, &mut output)?;
-    Ok(output.at)
+    put_steps(text, files, &mut nowhere())?;
+    put_steps(text, files, out)
 }
 
 // A whole file of steps that is shown and read again is the same file.

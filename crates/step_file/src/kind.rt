@@ -7,7 +7,7 @@ use std::fmt;
 
 #[derive(Clone, Copy, Debug, PartialEq, Eq)]
 pub enum Kind {
-    Entry,
+    Entry = 1,
     CloseList,
     Seal,
     CloseSeals,
@@ -41,14 +41,7 @@ impl From<Kind> for u8 {
     ghost from_gives = { λ kind number. number ≡ kind_number kind };
 
     fn from(kind: Kind) -> u8 {
-        match kind {
-            Kind::Entry => 1,
-            Kind::CloseList => 2,
-            Kind::Seal => 3,
-            Kind::CloseSeals => 4,
-            Kind::Opening => 5,
-            Kind::Close => 6,
-        }
+        kind as u8
     }
 }
 

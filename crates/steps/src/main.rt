@@ -5,9 +5,9 @@
 use anyhow::{Context, anyhow, bail};
 use names_text::is_text;
 use notation::{Paths, read, show};
+use output::{Output, whole};
 use program::finish;
 use std::alloc::{AllocError, Global};
-use std::error::Error;
 use std::process::ExitCode;
 use std::str::from_utf8;
 use std::{env, fs};
@@ -58,38 +58,20 @@ fn contents(rt: &HostRuntime, text: &[u8]) -> anyhow::Result<Vec<u8>> {
     Ok(files)
 }
 
-// What is written into lent memory, which tells the place behind it. Where it reaches the end of the memory there may be
-// more, so twice as much is lent.
-fn in_memory<E: Error, F: FnMut(&mut [u8]) -> Result<usize, E>>(
-    heap: Global,
-    start: usize,
-    mut put: F,
-) -> anyhow::Result<Vec<u8>>
-    requires { F.IsAlwaysCallable put }
-{
-    let mut size = start;
-    for _ in 0..64 {
-        let mut out = vec![in heap; 0; size]?;
-        let end = put(out.as_mut_slice())?;
-        if end < size {
-            out.truncate(end);
-            return Ok(out);
-        }
-        size = size.saturating_mul(2);
-    }
-    Err(anyhow!("there are too many steps"))
-}
-
 // The steps that a text says.
 fn steps_of(heap: Global, text: &[u8], files: &[u8]) -> anyhow::Result<Vec<u8>> {
-    let start = text.len().saturating_add(files.len()).saturating_add(1);
-    in_memory(heap, start, |out| read(text, files, out))
+    let size = text.len().saturating_add(files.len()).saturating_add(1);
+    let (steps, done) = whole(heap, size, |out: &mut Output| read(text, files, out))?;
+    done?;
+    Ok(steps)
 }
 
 // The text that shows steps.
 fn text_of(heap: Global, file: &[u8]) -> anyhow::Result<Vec<u8>> {
-    let start = file.len().saturating_mul(4).saturating_add(1);
-    in_memory(heap, start, |out| show(file, out))
+    let size = file.len().saturating_mul(4).saturating_add(1);
+    let (text, done) = whole(heap, size, |out: &mut Output| show(file, out))?;
+    done?;
+    Ok(text)
 }
 
 fn print_shown(rt: &HostRuntime, path: &str) -> anyhow::Result<()> {
