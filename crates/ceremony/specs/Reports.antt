@@ -1,18 +1,15 @@
 -- What is told of a draw that has ended. Assumes nothing.
 use Rattle.std.specs.Prelude.{ℕ, zero, suc, cond, List, [], ◌++◌, take, Some, None, Option}
-use Rattle.order.specs.declared.Outcome.{Outcome}
-use Rattle.order.specs.declared.Outcome.TheVariants.{Drawn, RunOut}
-use Rattle.seals.specs.Records.{has_opened}
+use Rattle.seals.specs.Records.{has_opened, opened_count}
 use Rattle.protocol.specs.Protocol.{Protocol}
 use Rattle.protocol.specs.Finished.{protocol_of}
 use Rattle.texts.specs.Lines.{summary_lines, left_out_line}
 use Rattle.ceremony.specs.Model.{Ended}
-use Rattle.ceremony.specs.Steps.{opened_count}
 
 -- the names in order, if there is an order
-abbrev pub drawn_part : List ℕ → ℕ → Outcome → Option (List ℕ)
-drawn_part order count (Drawn used) = Some (take count order)
-drawn_part order count RunOut = None
+abbrev pub drawn_part : List ℕ → ℕ → Option ℕ → Option (List ℕ)
+drawn_part order count (Some used) = Some (take count order)
+drawn_part order count None = None
 
 abbrev pub order_of : Ended → Option (List ℕ)
 order_of e = drawn_part e.held.order e.list.count e.outcome
@@ -31,5 +28,4 @@ left_out_of e = left_out_lines e.held.seals e.list.length e.parties
 
 -- the protocol of the draw
 abbrev pub protocol_left : Ended → Protocol
-protocol_left e =
-    protocol_of e.held.slots e.held.index e.list.count e.list.length e.held.seals e.parties e.held.order e.outcome
+protocol_left e = protocol_of e.held.slots e.held.index e.list.count e.list.length e.held.seals e.parties (order_of e)

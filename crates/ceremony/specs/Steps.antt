@@ -1,11 +1,14 @@
 -- Each step of a draw as a function of the state: what it answers, and the state after it. Assumes nothing.
-use Rattle.std.specs.Prelude.{ℕ, zero, suc, ◌+◌, ◌*◌, cond, not, ◌||◌, List, ◌++◌, length, take, drop, replicate, Ok, Err, Result, ◌==◌, nat_lt, slice_index}
+use Rattle.std.specs.Prelude.{ℕ, ◌+◌, ◌*◌, cond, not, ◌||◌, List, ◌++◌, length, take, drop, replicate, Ok, Err, Result, ◌==◌, nat_lt, slice_index}
+use Rattle.refusals.specs.Answers.{done, number_or}
+use Rattle.refusals.specs.declared.Lent.TheVariants.{Bits, Order}
+use Rattle.refusals.specs.declared.Missing.TheVariants.{Entry, Seal, Opening}
 use Rattle.refusals.specs.declared.Refusal.{Refusal}
 use Rattle.refusals.specs.declared.Refusal.TheVariants.{WrongTime, BitsLength, OpeningLength, Nothing, NoRoom}
 use Rattle.entries.specs.Rows.{list_hash}
 use Rattle.entries.specs.Place.{place_for}
 use Rattle.entries.specs.Entry.{Entered, entered}
-use Rattle.seals.specs.Records.{has_opened}
+use Rattle.seals.specs.Records.{opened_count}
 use Rattle.seals.specs.Steps.{Sealed as SealTaken, Opened as OpeningTaken, sealed, opened}
 use Rattle.sum.specs.Sums.{xor_bytes}
 use Rattle.order.specs.Drawings.{Drawing, drawn_order, outcome, left_in}
@@ -30,14 +33,6 @@ with_order m order = record { slots = m.slots; index = m.index; seals = m.seals;
 
 -- ---- an entry
 
-abbrev pub number_or : Result ℕ Refusal → ℕ → ℕ
-number_or (Ok n) old = n
-number_or (Err why) old = old
-
-abbrev pub done : Result ℕ Refusal → Result (Unit {0}) Refusal
-done (Ok n) = Ok tt
-done (Err why) = Err why
-
 abbrev pub listed_by : Listed → Entered → Listed × Result (Unit {0}) Refusal
 listed_by s e = (record { held = with_list s.held e.slots e.index; count = number_or e.answer s.count }, done e.answer)
 
@@ -61,9 +56,9 @@ abbrev pub length_given : Listed → List ℕ → Result ℕ Refusal
 length_given s x =
     cond (not (length x == 2)) (Err BitsLength)
     (cond (nat_lt (two_bytes x) shortest || nat_lt longest (two_bytes x)) (Err BitsLength)
-    (cond (s.count == 0) (Err (Nothing 0))
-    (cond (nat_lt (length s.held.bits) (two_bytes x)) (Err (NoRoom 2))
-    (cond (nat_lt (length s.held.order) s.count) (Err (NoRoom 3)) (Ok (two_bytes x))))))
+    (cond (s.count == 0) (Err (Nothing Entry))
+    (cond (nat_lt (length s.held.bits) (two_bytes x)) (Err (NoRoom Bits))
+    (cond (nat_lt (length s.held.order) s.count) (Err (NoRoom Order)) (Ok (two_bytes x))))))
 
 abbrev pub closed_list : Listed → ℕ → ClosedList
 closed_list s n = record { count = s.count; length = n; hash = list_hash s.held.slots s.held.index s.count }
@@ -86,7 +81,7 @@ seal_step s x = sealed_by s (sealed s.held.seals s.list.length s.parties x)
 -- ---- the seals close
 
 abbrev pub seals_close : Sealed → Result Sealed Refusal
-seals_close s = cond (s.parties == 0) (Err (Nothing 1)) (Ok s)
+seals_close s = cond (s.parties == 0) (Err (Nothing Seal)) (Ok s)
 
 -- ---- an opening: the party's byte, and then its 32 bytes and its bits, which are added to the sum
 
@@ -104,11 +99,6 @@ opening_step s x =
 
 -- ---- the final close: the order is drawn from the sum
 
--- how many of the first n parties have opened
-abbrev pub opened_count : List ℕ → ℕ → ℕ → ℕ
-opened_count seals len zero = 0
-opened_count seals len (suc n) = opened_count seals len n + cond (has_opened seals len n) 1 0
-
 abbrev pub drawing_of : Sealed → Drawing
 drawing_of s = drawn_order s.list.count (take s.list.length s.held.bits) 0
 
@@ -116,16 +106,19 @@ drawing_of s = drawn_order s.list.count (take s.list.length s.held.bits) 0
 abbrev pub order_after : Sealed → List ℕ
 order_after s = left_in (drawing_of s) s.held.order
 
--- the list that it is drawn for; room was asked for when the list was closed
-abbrev pub list_to_draw : Sealed → Result ClosedList Refusal
-list_to_draw s =
-    cond (opened_count s.held.seals s.list.length s.parties == 0) (Err (Nothing 2))
-    (cond (nat_lt (length s.held.bits) s.list.length) (Err (NoRoom 2))
-    (cond (nat_lt (length s.held.order) s.list.count) (Err (NoRoom 3)) (Ok s.list)))
+-- whether it may be drawn; room was asked for when the list was closed
+abbrev pub may_draw : Sealed → Result (Unit {0}) Refusal
+may_draw s =
+    cond (opened_count s.held.seals s.list.length s.parties == 0) (Err (Nothing Opening))
+    (cond (nat_lt (length s.held.bits) s.list.length) (Err (NoRoom Bits))
+    (cond (nat_lt (length s.held.order) s.list.count) (Err (NoRoom Order)) (Ok tt)))
 
-abbrev pub closed_with : Sealed → Result ClosedList Refusal → Result Ended Refusal
+abbrev pub after_drawing : Sealed → Ended
+after_drawing s = record { held = with_order s.held (order_after s); list = s.list; parties = s.parties; outcome = outcome (drawing_of s) }
+
+abbrev pub closed_with : Sealed → Result (Unit {0}) Refusal → Result Ended Refusal
 closed_with s (Err why) = Err why
-closed_with s (Ok list) = Ok (record { held = with_order s.held (order_after s); list = s.list; parties = s.parties; outcome = outcome (drawing_of s) })
+closed_with s (Ok u) = Ok (after_drawing s)
 
 abbrev pub final_close : Sealed → Result Ended Refusal
-final_close s = closed_with s (list_to_draw s)
+final_close s = closed_with s (may_draw s)

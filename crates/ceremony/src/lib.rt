@@ -5,6 +5,7 @@
 // memory is lent by the caller and held together.
 #![tactic(auto)]
 
+mod closed;
 mod entering;
 mod finished;
 mod memory;

@@ -1,14 +1,16 @@
 // A draw in any of its phases, and one step of it.
 ghost use Rattle.std.specs.Prelude.{◌≡◌};
-ghost use Rattle.ceremony.specs.Draws.{State, closed_list, listing, sealing, opening, ended, state, step};
+ghost use Rattle.ceremony.specs.Draws.{State, closed_list, listing, sealing, opening, ended, state, step, why};
+ghost use Rattle.step_file.specs.Kinds.{kind_number};
 ghost use Rattle.ceremony.specs.Model.{as_listed, as_sealed, as_opened, as_ended};
 
 use crate::entering::Listing;
 use crate::finished::Finished;
-use crate::memory::{ClosedList, out_of_time};
+use crate::memory::ClosedList;
 use crate::opening::Opening;
 use crate::sealing::Sealing;
 use refusals::Refusal;
+use step_file::Kind;
 
 #[derive(Drop)]
 pub enum Draw<'a> {
@@ -18,56 +20,63 @@ pub enum Draw<'a> {
     Finished(Finished<'a>),
 }
 
-fn in_listing<'a>(s: Listing<'a>, kind: u8, bytes: &[u8]) -> (Draw<'a>, Option<Refusal>)
-    ensures state { state result.0 ≡ (step (listing (as_listed s.entry)) kind bytes.now).0 }
-    ensures answer { result.1 ≡ (step (listing (as_listed s.entry)) kind bytes.now).1 }
+fn in_listing<'a>(s: Listing<'a>, kind: Kind, bytes: &[u8]) -> (Draw<'a>, Result<(), Refusal>)
+    ensures state { state result.0 ≡ (step (listing (as_listed s.entry)) (kind_number kind) bytes.now).0 }
+    ensures answer { why result.1 ≡ (step (listing (as_listed s.entry)) (kind_number kind) bytes.now).1 }
 {
-    if kind == 1 {
-        let (s, answer) = s.enter(bytes);
-        return (Draw::Listing(s), answer.err());
-    }
-    if kind != 2 {
-        return (Draw::Listing(s), Some(Refusal::WrongTime));
-    }
-    match s.close(bytes) {
-        Ok(next) => (Draw::Sealing(next), None),
-        Err((s, why)) => (Draw::Listing(s), Some(why)),
+    let mut s = s;
+    match kind {
+        Kind::Entry => {
+            let answer = s.enter(bytes);
+            (Draw::Listing(s), answer)
+        }
+        Kind::CloseList => match s.close(bytes) {
+            Ok(next) => (Draw::Sealing(next), Ok(())),
+            Err((s, why)) => (Draw::Listing(s), Err(why)),
+        },
+        _ => (Draw::Listing(s), Err(Refusal::WrongTime)),
     }
 }
 
-fn in_sealing<'a>(s: Sealing<'a>, kind: u8, bytes: &[u8]) -> (Draw<'a>, Option<Refusal>)
-    ensures state { state result.0 ≡ (step (sealing (as_sealed s.entry)) kind bytes.now).0 }
-    ensures answer { result.1 ≡ (step (sealing (as_sealed s.entry)) kind bytes.now).1 }
+fn in_sealing<'a>(s: Sealing<'a>, kind: Kind, bytes: &[u8]) -> (Draw<'a>, Result<(), Refusal>)
+    ensures state { state result.0 ≡ (step (sealing (as_sealed s.entry)) (kind_number kind) bytes.now).0 }
+    ensures answer { why result.1 ≡ (step (sealing (as_sealed s.entry)) (kind_number kind) bytes.now).1 }
 {
-    if kind == 3 {
-        let (s, answer) = s.seal(bytes);
-        return (Draw::Sealing(s), answer.err());
-    }
-    if kind != 4 {
-        let why = out_of_time(&s.memory, s.list.count, kind, bytes);
-        return (Draw::Sealing(s), Some(why));
-    }
-    match s.close() {
-        Ok(next) => (Draw::Opening(next), None),
-        Err((s, why)) => (Draw::Sealing(s), Some(why)),
+    let mut s = s;
+    match kind {
+        Kind::Seal => {
+            let answer = s.seal(bytes);
+            (Draw::Sealing(s), answer)
+        }
+        Kind::CloseSeals => match s.close() {
+            Ok(next) => (Draw::Opening(next), Ok(())),
+            Err((s, why)) => (Draw::Sealing(s), Err(why)),
+        },
+        _ => {
+            let why = s.closed.out_of_time(kind, bytes);
+            (Draw::Sealing(s), Err(why))
+        }
     }
 }
 
-fn in_opening<'a>(s: Opening<'a>, kind: u8, bytes: &[u8]) -> (Draw<'a>, Option<Refusal>)
-    ensures state { state result.0 ≡ (step (opening (as_opened s.entry)) kind bytes.now).0 }
-    ensures answer { result.1 ≡ (step (opening (as_opened s.entry)) kind bytes.now).1 }
+fn in_opening<'a>(s: Opening<'a>, kind: Kind, bytes: &[u8]) -> (Draw<'a>, Result<(), Refusal>)
+    ensures state { state result.0 ≡ (step (opening (as_opened s.entry)) (kind_number kind) bytes.now).0 }
+    ensures answer { why result.1 ≡ (step (opening (as_opened s.entry)) (kind_number kind) bytes.now).1 }
 {
-    if kind == 5 {
-        let (s, answer) = s.open(bytes);
-        return (Draw::Opening(s), answer.err());
-    }
-    if kind != 6 {
-        let why = out_of_time(&s.memory, s.list.count, kind, bytes);
-        return (Draw::Opening(s), Some(why));
-    }
-    match s.close() {
-        Ok(next) => (Draw::Finished(next), None),
-        Err((s, why)) => (Draw::Opening(s), Some(why)),
+    let mut s = s;
+    match kind {
+        Kind::Opening => {
+            let answer = s.open(bytes);
+            (Draw::Opening(s), answer)
+        }
+        Kind::Close => match s.close() {
+            Ok(next) => (Draw::Finished(next), Ok(())),
+            Err((s, why)) => (Draw::Opening(s), Err(why)),
+        },
+        _ => {
+            let why = s.closed.out_of_time(kind, bytes);
+            (Draw::Opening(s), Err(why))
+        }
     }
 }
 
@@ -78,24 +87,29 @@ impl<'a> Draw<'a> {
     {
         match self {
             Draw::Listing(_) => None,
-            Draw::Sealing(s) => Some(s.list),
-            Draw::Opening(s) => Some(s.list),
-            Draw::Finished(s) => Some(s.list),
+            Draw::Sealing(s) => Some(s.closed.closed_list()),
+            Draw::Opening(s) => Some(s.closed.closed_list()),
+            Draw::Finished(s) => Some(s.closed.closed_list()),
         }
     }
 
-    // One step of the draw: the state after it, and why it was refused if it was.
-    pub fn step(self, kind: u8, bytes: &[u8]) -> (Draw<'a>, Option<Refusal>)
+    // One step of the draw: the state after it, and why it was refused if it was. The draw goes by value, since a closing
+    // leaves no phase behind that a reference could hold meanwhile.
+    #[tactic(auto, using(crate::proofs::UnknownKinds::unknown))]
+    pub fn step(self, kind: u8, bytes: &[u8]) -> (Draw<'a>, Result<(), Refusal>)
         ensures state { state result.0 ≡ (step (state self.entry) kind bytes.now).0 }
-        ensures answer { result.1 ≡ (step (state self.entry) kind bytes.now).1 }
+        ensures answer { why result.1 ≡ (step (state self.entry) kind bytes.now).1 }
     {
+        let Ok(kind) = Kind::try_from(kind) else {
+            return (self, Err(Refusal::WrongTime));
+        };
         match self {
             Draw::Listing(s) => in_listing(s, kind, bytes),
             Draw::Sealing(s) => in_sealing(s, kind, bytes),
             Draw::Opening(s) => in_opening(s, kind, bytes),
             Draw::Finished(s) => {
-                let why = out_of_time(&s.memory, s.list.count, kind, bytes);
-                (Draw::Finished(s), Some(why))
+                let why = s.closed.out_of_time(kind, bytes);
+                (Draw::Finished(s), Err(why))
             }
         }
     }

@@ -1,9 +1,9 @@
 // draw STEPS [PROTOCOL]: runs a file of steps, prints what comes of it, and writes the protocol of a draw that ends.
 #![tactic(auto)]
 
-use anyhow::{Context, anyhow, bail};
+use anyhow::{Context, bail};
 use program::finish;
-use runs::{Ending, Report, draw};
+use runs::{Finish, Report, draw};
 use std::process::ExitCode;
 use std::{env, fs};
 
@@ -25,19 +25,13 @@ fn save(rt: &HostRuntime, path: &str, bytes: &[u8]) -> anyhow::Result<()> {
 
 // Prints a report; the protocol is saved before the summary is printed, so that nobody reads of a draw that was lost.
 fn tell(rt: &HostRuntime, report: Report, path: Option<&String>) -> anyhow::Result<()> {
-    let Report {
-        refusals,
+    let Report { refusals, finish } = report;
+    rt.print(refusals.as_str())?;
+    let Finish {
         summary,
         left_out,
         protocol,
-        ending,
-    } = report;
-    rt.print(refusals.as_str())?;
-    match ending {
-        Ending::Finished => (),
-        Ending::Unfinished => return Err(anyhow!("the steps end before the draw is closed")),
-        Ending::Cut => return Err(anyhow!("the file ends inside a step")),
-    }
+    } = finish?;
     if let Some(path) = path {
         save(rt, path.as_str(), protocol.as_slice())?;
     }

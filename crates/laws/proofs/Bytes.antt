@@ -3,6 +3,7 @@ use Rattle.std.proofs.Common.{◌≡◌, ℕ, zero, suc, ◌+◌, ◌<◌, ◌�
 use lib.Seq.{paste}
 use Rattle.std.proofs.lemmas.List.{get_or-drop}
 use Rattle.std.proofs.lemmas.Bool.{cases_lt, lt-ltb, or_right}
+use Rattle.refusals.specs.declared.Missing.TheVariants.{Seal}
 use Rattle.refusals.specs.declared.Refusal.{Refusal}
 use Rattle.refusals.specs.declared.Refusal.TheVariants.{NameLength, OpeningLength, Nothing}
 use Rattle.protocol.specs.Draws.{Bytes}
@@ -10,9 +11,8 @@ use Rattle.entries.specs.Rows.{packed, longest_name}
 use Rattle.entries.specs.Place.{place_for}
 use Rattle.entries.specs.Entry.{slot_for, entered_at, entered_into}
 use Rattle.seals.specs.Steps.{seal_fault, sealed_at, opening_fault, opened_at}
-use Rattle.ceremony.specs.declared.memory.ClosedList.{ClosedList}
 use Rattle.ceremony.specs.Model.{Held, Listed, Sealed, Ended}
-use Rattle.ceremony.specs.Steps.{entry_step, listed_by, length_given, listing_closed, list_close, seal_step, sealed_by, seals_close, opening_step, opened_by, list_to_draw, closed_with, final_close}
+use Rattle.ceremony.specs.Steps.{entry_step, listed_by, length_given, listing_closed, list_close, seal_step, sealed_by, seals_close, opening_step, opened_by, may_draw, closed_with, final_close}
 use Rattle.ceremony.specs.Draws.{State, listing, sealing, opening, ended, stepped, closed, step}
 use Rattle.step_file.specs.Reading.{end, cut, length_of}
 use Rattle.step_file.specs.Reading as reading
@@ -118,13 +118,13 @@ step_typed (listing s) kind x h b =
 step_typed (sealing s) kind x h b =
     by_test (eqb kind 3) _ _ (seal s x h b)
     (by_test (eqb kind 4) _ _
-    (closing (sealing s) opening (seals_close s) h (λ t e. subst (λ (q : Sealed). Typed (opening q)) (ok_is _ _ (passed (eqb s.parties 0) (Nothing 1) (Ok s) t e).1) h)) h)
+    (closing (sealing s) opening (seals_close s) h (λ t e. subst (λ (q : Sealed). Typed (opening q)) (ok_is _ _ (passed (eqb s.parties 0) (Nothing Seal) (Ok s) t e).1) h)) h)
 step_typed (opening s) kind x h b =
     by_test (eqb kind 5) _ _ (opens s x h b)
-    (by_test (eqb kind 6) _ _ (closing (opening s) ended (final_close s) h (λ t e. end_typed (list_to_draw s) t e)) h)
+    (by_test (eqb kind 6) _ _ (closing (opening s) ended (final_close s) h (λ t e. end_typed (may_draw s) t e)) h)
   where
-    end_typed : (r : Result ClosedList Refusal) (t : Ended) → closed_with s r ≡ Ok t → Typed (ended t)
-    end_typed (Ok list) t e = subst (λ (q : Ended). Typed (ended q)) (ok_is _ _ e) h
+    end_typed : (r : Result (Unit {0}) Refusal) (t : Ended) → closed_with s r ≡ Ok t → Typed (ended t)
+    end_typed (Ok u) t e = subst (λ (q : Ended). Typed (ended q)) (ok_is _ _ e) h
     end_typed (Err w) t e = absurd (let z : ◌≡◌ {A = ℕ} 0 1 = cc in omega arith)
 step_typed (ended e) kind x h b = h
 
@@ -137,10 +137,10 @@ steps_bytes : (n : ℕ) (rest : List ℕ) → Bytes rest → AllBytes (steps_of 
 unfolding steps_of
 steps_bytes zero rest h = tt
 steps_bytes (suc n) rest h =
-    go (ltb 0 (length rest)) (leb (3 + length_of rest) (length rest)) (steps_bytes n (drop (0 + 3 + length_of rest) rest) (bytes_drop (0 + 3 + length_of rest) rest h))
+    go (ltb 0 (length rest)) (leb (3 + length_of rest) (length rest)) (steps_bytes n (drop (3 + length_of rest) rest) (bytes_drop (3 + length_of rest) rest h))
   where
-    go : (a b : Bool) → AllBytes (steps_of n (drop (0 + 3 + length_of rest) rest))
-        → AllBytes (more_steps (λ r. steps_of n r) rest (cond a (cond b (reading.step (get_or rest 0 0) (take (length_of rest) (drop 3 rest)) (0 + 3 + length_of rest)) cut) end))
+    go : (a b : Bool) → AllBytes (steps_of n (drop (3 + length_of rest) rest))
+        → AllBytes (more_steps (λ r. steps_of n r) (cond a (cond b (reading.step (get_or rest 0 0) (take (length_of rest) (drop 3 rest)) (drop (3 + length_of rest) rest)) cut) end))
     go true true ih = (bytes_take (length_of rest) (drop 3 rest) (bytes_drop 3 rest h), ih)
     go true false ih = tt
     go false b ih = tt

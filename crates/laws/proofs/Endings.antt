@@ -2,14 +2,15 @@
 use Rattle.std.proofs.Common.{◌≡◌, ℕ, ◌<◌, ◌≤◌, eqb, List, length, take, drop, Some, Ok, Err, Result, refl, ap, subst, arith}
 use Rattle.std.proofs.lemmas.List.{take_at, length-append, length-drop}
 use Rattle.std.proofs.lemmas.Bool.{eqb-false}
+use Rattle.refusals.specs.declared.Missing.TheVariants.{Opening}
 use Rattle.refusals.specs.declared.Refusal.{Refusal}
 use Rattle.refusals.specs.declared.Refusal.TheVariants.{Nothing}
 use Rattle.order.specs.Drawings.{Drawing, drawn, run_out, drawn_order, outcome, left_in}
 use Rattle.order.proofs.Slices.{drawn_length}
-use Rattle.ceremony.specs.declared.memory.ClosedList.{ClosedList}
 use Rattle.protocol.specs.Protocol.{ordered}
 use Rattle.ceremony.specs.Model.{Sealed, Ended}
-use Rattle.ceremony.specs.Steps.{opened_count, drawing_of, order_after, list_to_draw, closed_with, final_close, with_order}
+use Rattle.ceremony.specs.Steps.{after_drawing, may_draw, closed_with, final_close}
+use Rattle.seals.specs.Records.{opened_count}
 use Rattle.ceremony.specs.Reports.{drawn_part}
 use Rattle.laws.specs.Sound.{InOpening, AtEnd}
 use Rattle.laws.proofs.Answers.{passed, ok_is, positive}
@@ -34,11 +35,7 @@ module _ (n : ℕ) (bytes order : List ℕ) (l : n ≤ length order) where
       go run_out e = refl
 
 module _ (s : Sealed) (i : InOpening s) where
-  end_of : Ended
-  end_of = record { held = with_order s.held (order_after s); list = s.list; parties = s.parties; outcome = outcome (drawing_of s) }
-
-  at_end : 0 < opened_count s.held.seals s.list.length s.parties → AtEnd end_of
-  unfolding end_of
+  at_end : 0 < opened_count s.held.seals s.list.length s.parties → AtEnd (after_drawing s)
   at_end o =
       let c = i.closed in
       let bytes : List ℕ = take s.list.length s.held.bits in
@@ -64,11 +61,10 @@ module _ (s : Sealed) (i : InOpening s) where
       }
 
   pub final_sound : (e : Ended) → final_close s ≡ Ok e → AtEnd e
-  unfolding end_of
-  final_sound e h = go (list_to_draw s) refl h
+  final_sound e h = go (may_draw s) refl h
     where
-      go : (r : Result ClosedList Refusal) → list_to_draw s ≡ r → closed_with s r ≡ Ok e → AtEnd e
-      go (Ok list) p q =
-          let a = passed (eqb (opened_count s.held.seals s.list.length s.parties) 0) (Nothing 2) _ list p in
+      go : (r : Result (Unit {0}) Refusal) → may_draw s ≡ r → closed_with s r ≡ Ok e → AtEnd e
+      go (Ok u) p q =
+          let a = passed (eqb (opened_count s.held.seals s.list.length s.parties) 0) (Nothing Opening) _ u p in
           subst AtEnd (ok_is _ _ q) (at_end (positive _ (eqb-false _ 0 a.0)))
       go (Err why) p q = absurd (let z : ◌≡◌ {A = ℕ} 0 1 = cc in omega arith)

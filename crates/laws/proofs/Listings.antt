@@ -2,6 +2,9 @@
 use Rattle.std.proofs.Common.{◌≡◌, ℕ, ◌*◌, ◌<◌, ◌≤◌, not, ◌||◌, eqb, ltb, List, ◌++◌, length, drop, replicate, Ok, Err, Result, sym, refl, ◌∙◌, subst, arith}
 use Rattle.std.proofs.lemmas.List.{take_at, length-replicate, length-append}
 use Rattle.std.proofs.lemmas.Bool.{or_parts, ltb-false, eqb-false}
+use Rattle.refusals.specs.Answers.{number_or}
+use Rattle.refusals.specs.declared.Lent.TheVariants.{Bits, Order}
+use Rattle.refusals.specs.declared.Missing.TheVariants.{Entry}
 use Rattle.refusals.specs.declared.Refusal.{Refusal}
 use Rattle.refusals.specs.declared.Refusal.TheVariants.{BitsLength, Nothing, NoRoom}
 use Rattle.entries.specs.Rows.{most_names}
@@ -12,7 +15,7 @@ use Rattle.seals.specs.Records.{record_size}
 use Rattle.records.specs.Records.{opened_rows}
 use Rattle.sum.specs.Sums.{sum_of, sum_from}
 use Rattle.ceremony.specs.Model.{Listed, Sealed}
-use Rattle.ceremony.specs.Steps.{closed_list, number_or, entry_step, two_bytes, length_given, listing_closed, list_close, shortest, longest}
+use Rattle.ceremony.specs.Steps.{closed_list, entry_step, two_bytes, length_given, listing_closed, list_close, shortest, longest}
 use Rattle.laws.specs.Sound.{list_of, InListing, InSealing}
 use Rattle.laws.proofs.Answers.{passed, ok_is, positive}
 
@@ -47,9 +50,9 @@ pub length_passed : (s : Listed) (x : List ℕ) (n : ℕ) → length_given s x �
 length_passed s x n e =
     let a = passed (not (eqb (length x) 2)) BitsLength _ n e in
     let b = passed (ltb (two_bytes x) shortest || ltb longest (two_bytes x)) BitsLength _ n a.1 in
-    let c = passed (eqb s.count 0) (Nothing 0) _ n b.1 in
-    let d = passed (ltb (length s.held.bits) (two_bytes x)) (NoRoom 2) _ n c.1 in
-    let f = passed (ltb (length s.held.order) s.count) (NoRoom 3) _ n d.1 in
+    let c = passed (eqb s.count 0) (Nothing Entry) _ n b.1 in
+    let d = passed (ltb (length s.held.bits) (two_bytes x)) (NoRoom Bits) _ n c.1 in
+    let f = passed (ltb (length s.held.order) s.count) (NoRoom Order) _ n d.1 in
     let o = or_parts (ltb (two_bytes x) shortest) (ltb longest (two_bytes x)) b.0 in
     let g : two_bytes x ≡ n = ok_is _ _ f.1 in
     let h1 = ltb-false _ _ o.0 in

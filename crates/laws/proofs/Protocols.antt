@@ -7,20 +7,17 @@ use Rattle.std.proofs.lemmas.List.{length-append, length-take-le, length-drop, l
 use Rattle.sha256.specs.Sha256.{sha256}
 use Rattle.entries.specs.Rows.{listed, packed_rows, name_in, slot_size}
 use Rattle.listing.proofs.Memory.{length_names, name_lengths}
-use Rattle.seals.specs.Records.{record_size, seal_in, has_opened, opening_in}
+use Rattle.seals.specs.Records.{record_size, seal_in, has_opened, opening_in, opened_count}
 use Rattle.records.specs.Records.{opened_rows}
 use Rattle.records.proofs.Places.{later_place}
 use Rattle.sum.specs.Sums.{sum_of}
-use Rattle.order.specs.declared.Outcome.{Outcome}
-use Rattle.order.specs.declared.Outcome.TheVariants.{Drawn, RunOut}
 use Rattle.order.specs.Drawings.{drawn_order}
 use Rattle.protocol.specs.Protocol.{Party, openings, ordered}
-use Rattle.protocol.specs.Finished.{party_left, order_left}
+use Rattle.protocol.specs.Finished.{party_left}
 use Rattle.protocol.specs.Draws.{Bytes, Name, Opening, PartyOf, OfDraw, no_party, acceptance}
 use Rattle.protocol.specs.Check.{accepted}
 use Rattle.ceremony.specs.Model.{Ended}
-use Rattle.ceremony.specs.Steps.{opened_count}
-use Rattle.ceremony.specs.Reports.{drawn_part, order_of, protocol_left}
+use Rattle.ceremony.specs.Reports.{order_of, protocol_left}
 use Rattle.ceremony.specs.Draws.{ended}
 use Rattle.laws.specs.Sound.{AtEnd, list_of}
 use Rattle.protocol.specs.Texts.{verdict_text}
@@ -63,10 +60,6 @@ openings_counted seals L (suc n) =
     last : (b : Bool) → length (option_to_list (cond b (Some (opening_in seals L n)) None)) ≡ cond b 1 0
     last true = refl
     last false = refl
-
-pub same_order : (order : List ℕ) (count : ℕ) (o : Outcome) → order_left o (take count order) ≡ drawn_part order count o
-same_order order count (Drawn used) = refl
-same_order order count RunOut = refl
 
 module _ (e : Ended) (i : AtEnd e) (t : Typed (ended e)) where
   -- a record lies whole in its memory
@@ -140,11 +133,10 @@ module _ (e : Ended) (i : AtEnd e) (t : Typed (ended e)) where
             (sym (get_or-map-range_with_len (party_left seals L) 0 e.parties k k no_party m (omega arith))) (each_party k m);
         some_opened = let q = openings_counted seals L e.parties in omega (arith, q, i.some_opened);
         drawn =
-            same_order e.held.order e.list.count e.outcome
-            ∙ (i.order
+            i.order
             ∙ (ap (λ (k : ℕ). ordered (drawn_order k (take L e.held.bits) 0)) (sym n)
             ∙ ap (λ (x : List ℕ). ordered (drawn_order (length (listed e.held.slots e.held.index e.list.count)) x 0))
-            (c.sum ∙ ap (sum_of L) (sym (rows_are seals L e.parties)))));
+            (c.sum ∙ ap (sum_of L) (sym (rows_are seals L e.parties))));
       }
 
   -- what is told of it is what the draw printed
@@ -154,8 +146,7 @@ module _ (e : Ended) (i : AtEnd e) (t : Typed (ended e)) where
       let seals : List ℕ = e.held.seals in
       let L : ℕ = e.list.length in
       λ j.
-      accepted (length_names s i.closed.names j) (length-map-range_with_len (party_left seals L) 0 e.parties j) (openings_counted seals L e.parties j)
-      (same_order e.held.order e.list.count e.outcome j)
+      accepted (length_names s i.closed.names j) (length-map-range_with_len (party_left seals L) 0 e.parties j) (openings_counted seals L e.parties j) (order_of e)
 
 pub run_protocols : RunProtocols
 run_protocols file e b h =

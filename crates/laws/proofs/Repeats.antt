@@ -9,8 +9,7 @@ use Rattle.ceremony.specs.Model.{Ended}
 use Rattle.ceremony.specs.Reports.{summary_of, protocol_left}
 use Rattle.ceremony.specs.Draws.{State, listing, sealing, opening, ended}
 use Rattle.step_file.specs.File.{file_cut}
-use Rattle.runs.specs.declared.report.Ending.TheVariants.{Finished}
-use Rattle.runs.specs.Reports.{Told, told_of, run_of}
+use Rattle.runs.specs.Reports.{Told, Finished, told_of, run_of}
 use Rattle.laws.specs.Laws.{Repeats}
 use Rattle.laws.proofs.Protocols.{run_protocols}
 

@@ -1,6 +1,8 @@
 -- Seals, and the closing of the seals, keep the state sound. Assumes nothing.
 use Rattle.std.proofs.Common.{◌≡◌, ℕ, ◌*◌, ◌<◌, ◌≤◌, true, eqb, List, None, Ok, Err, Result, sym, ap, ◌∙◌, subst, ⊎_elim, arith}
 use Rattle.std.proofs.lemmas.Bool.{cases_lt, both_ways, eqb-false}
+use Rattle.refusals.specs.Answers.{done, number_or}
+use Rattle.refusals.specs.declared.Missing.TheVariants.{Seal}
 use Rattle.refusals.specs.declared.Refusal.{Refusal}
 use Rattle.refusals.specs.declared.Refusal.TheVariants.{Nothing}
 use Rattle.seals.specs.Seal.{seal_of}
@@ -11,7 +13,7 @@ use Rattle.records.proofs.Kept.{seal_taken}
 use Rattle.records.proofs.Summed.{seal_unsummed}
 use Rattle.sum.specs.Sums.{sum_of}
 use Rattle.ceremony.specs.Model.{Sealed}
-use Rattle.ceremony.specs.Steps.{number_or, done, with_seals, seals_close}
+use Rattle.ceremony.specs.Steps.{with_seals, seals_close}
 use Rattle.ceremony.specs.Draws.{why}
 use Rattle.laws.specs.Sound.{InSealing, InOpening}
 use Rattle.laws.proofs.Answers.{passed, ok_is, positive}
@@ -69,6 +71,6 @@ module _ (s : Sealed) (x : List ℕ) (i : InSealing s) where
 
 pub seals_close_sound : (s t : Sealed) → InSealing s → seals_close s ≡ Ok t → InOpening t
 seals_close_sound s t i e =
-    let a = passed (eqb s.parties 0) (Nothing 1) (Ok s) t e in
+    let a = passed (eqb s.parties 0) (Nothing Seal) (Ok s) t e in
     let same : s ≡ t = ok_is _ _ a.1 in
     subst InOpening same (record { closed = i.closed; some_parties = positive s.parties (eqb-false s.parties 0 a.0) })

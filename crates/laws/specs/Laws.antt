@@ -11,8 +11,7 @@ use Rattle.records.specs.Records.{opened_rows}
 use Rattle.sum.specs.Sums.{sum_of}
 use Rattle.texts.specs.Lines.{order_words}
 use Rattle.step_file.specs.File.{file_steps}
-use Rattle.runs.specs.Reports.{fresh, run_of, report_of}
-use Rattle.runs.specs.declared.report.Ending.TheVariants.{Finished}
+use Rattle.runs.specs.Reports.{Finished, fresh, run_of, report_of}
 use Rattle.laws.specs.Taken.{taken_kinds}
 use Rattle.laws.specs.Sound.{SoundState}
 

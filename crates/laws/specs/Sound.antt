@@ -3,14 +3,14 @@ use Rattle.std.specs.Prelude.{◌≡◌, ℕ, ◌*◌, ◌<◌, ◌≤◌, true,
 use Rattle.entries.specs.Rows.{list_hash, most_names}
 use Rattle.listing.specs.Listing.{Listing, Sound}
 use Rattle.seals.specs.Seal.{seal_of}
-use Rattle.seals.specs.Records.{record_size, seal_in, has_opened, opening_in}
+use Rattle.seals.specs.Records.{record_size, seal_in, has_opened, opening_in, opened_count}
 use Rattle.seals.specs.Steps.{most_parties}
 use Rattle.records.specs.Records.{opened_rows}
 use Rattle.sum.specs.Sums.{sum_of}
 use Rattle.order.specs.Drawings.{drawn_order}
 use Rattle.protocol.specs.Protocol.{ordered}
 use Rattle.ceremony.specs.Model.{Held, Listed, Sealed, Ended}
-use Rattle.ceremony.specs.Steps.{shortest, longest, opened_count}
+use Rattle.ceremony.specs.Steps.{shortest, longest}
 use Rattle.ceremony.specs.Reports.{order_of}
 use Rattle.ceremony.specs.Draws.{State, listing, sealing, opening, ended}
 

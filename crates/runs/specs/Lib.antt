@@ -1,2 +1,3 @@
+pub mod NoDraws
 pub mod Runs
 pub mod Reports

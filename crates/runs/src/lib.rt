@@ -6,7 +6,9 @@
 // have a module and a function of one name.
 #![tactic(auto)]
 
+mod no_draw;
 mod report;
 pub mod run;
 
-pub use report::{Ending, Report, draw};
+pub use no_draw::NoDraw;
+pub use report::{Finish, Report, draw};

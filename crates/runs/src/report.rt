@@ -1,11 +1,17 @@
 // What a run of a file tells.
-ghost use Rattle.std.specs.Prelude.{◌≡◌, List, ◌++◌, IfOk, string_bytes};
+ghost use Rattle.std.specs.Prelude.{◌≡◌, List, ◌++◌, is_err, IfOk, string_bytes};
+ghost use Rattle.std.specs.Result.{result_map_both};
 ghost use Rattle.ceremony.specs.Draws.{state};
-ghost use Rattle.runs.specs.Reports.{report, refusals_alone, told_of, report_of, contents, zeros};
+ghost use Rattle.ceremony.specs.Model.{as_ended};
+ghost use Rattle.ceremony.specs.Reports.{summary_of, left_out_of, protocol_left};
+ghost use Rattle.protocol.specs.Protocol.{written};
+ghost use Rattle.runs.specs.Reports.{report, end_of, told_of, report_of, contents, zeros};
 
+use crate::no_draw::NoDraw;
 use crate::run::run;
-use ceremony::{Draw, Listing, Memory};
+use ceremony::{Draw, Finished, Listing, Memory};
 use std::alloc::{AllocError, Global};
+use step_file::CutShort;
 
 // Room for 2,000 names in slots of 65 bytes, and for 255 parties' records of 8,257 bytes.
 const NAMES: usize = 2_000;
@@ -16,58 +22,62 @@ const LONGEST: usize = 8_192;
 
 const RECORDS: usize = 2_105_535;
 
-// How a file of steps ends: with a draw that is finished, without one, or inside a step.
-#[derive(Clone, Copy, Debug, PartialEq, Eq)]
-pub enum Ending {
-    Finished,
-    Unfinished,
-    Cut,
-}
-
-// A line for each refused step; of a finished draw the summary, the lines that name the parties whose openings have not
-// come, and the protocol.
+// A line for each refused step, and what is told of the draw, if the file ends with one.
 #[derive(Drop)]
 pub struct Report {
     pub refusals: String,
+    pub finish: Result<Finish, NoDraw>,
+}
+
+// Of a finished draw the summary, the lines that name the parties whose openings have not come, and the protocol.
+#[derive(Drop)]
+pub struct Finish {
     pub summary: String,
     pub left_out: String,
     pub protocol: Vec<u8>,
-    pub ending: Ending,
 }
 
-// What is told of a run that does not end with a draw.
-fn untold(heap: Global, refusals: String, ending: Ending) -> Report
-    ensures { report result ≡ refusals_alone (string_bytes refusals) ending }
+// The draw that a run ends with, if it does.
+fn end<'d, 'a>(draw: &'d Draw<'a>, read: Result<(), CutShort>) -> Result<&'d Finished<'a>, NoDraw>
+    ensures { result_map_both (λ e. as_ended e.now) (λ why. why) result ≡ end_of (is_err read) (state draw.now) }
 {
-    Report {
-        refusals,
-        summary: String::new(heap),
-        left_out: String::new(heap),
-        protocol: Vec::new(heap),
-        ending,
+    read?;
+    match draw {
+        Draw::Finished(end) => Ok(end),
+        _ => Err(NoDraw::Unfinished),
     }
 }
 
-// What is told of the last state of a run.
-fn tell(heap: Global, draw: &Draw, cut: bool, refusals: String) -> Result<Report, AllocError>
-    ensures { IfOk result (λ t. report t ≡ told_of (string_bytes refusals) cut (state draw.now)) }
+// What is told of a draw that has ended.
+fn tell_end(heap: Global, end: &Finished) -> Result<Finish, AllocError>
+    ensures summary { IfOk result (λ f. string_bytes f.summary ≡ summary_of (as_ended end.now)) }
+    ensures left_out { IfOk result (λ f. string_bytes f.left_out ≡ left_out_of (as_ended end.now)) }
+    ensures protocol { IfOk result (λ f. f.protocol.items ≡ written (protocol_left (as_ended end.now))) }
 {
-    if cut {
-        return Ok(untold(heap, refusals, Ending::Cut));
-    }
-    let Draw::Finished(end) = draw else {
-        return Ok(untold(heap, refusals, Ending::Unfinished));
-    };
     let summary = end.summary(heap)?;
     let left_out = end.left_out(heap)?;
     let protocol = end.protocol(heap)?;
-    Ok(Report {
-        refusals,
+    Ok(Finish {
         summary,
         left_out,
         protocol,
-        ending: Ending::Finished,
     })
+}
+
+// What is told of the last state of a run.
+fn tell(
+    heap: Global,
+    draw: &Draw,
+    read: Result<(), CutShort>,
+    refusals: String,
+) -> Result<Report, AllocError>
+    ensures { IfOk result (λ t. report t ≡ told_of (string_bytes refusals) (is_err read) (state draw.now)) }
+{
+    let finish = match end(draw, read) {
+        Ok(end) => Ok(tell_end(heap, end)?),
+        Err(why) => Err(why),
+    };
+    Ok(Report { refusals, finish })
 }
 
 // The memory of a draw.
@@ -110,6 +120,6 @@ pub fn draw(heap: Global, file: &[u8]) -> Result<Report, AllocError>
         order: room.order.as_mut_slice(),
     };
     let mut refusals = String::new(heap);
-    let (last, cut) = run(Draw::Listing(Listing::begin(memory)), file, &mut refusals)?;
-    tell(heap, &last, cut, refusals)
+    let (last, read) = run(Draw::Listing(Listing::begin(memory)), file, &mut refusals)?;
+    tell(heap, &last, read, refusals)
 }

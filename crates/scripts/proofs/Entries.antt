@@ -4,6 +4,7 @@ use Rattle.std.specs.List.{ContainsAt as Has}
 use Rattle.std.specs.List.Sorted.{IsPermutation}
 use Rattle.std.proofs.lemmas.List.Sorted.{length_permutation, IsPermutation-sym}
 use Rattle.std.proofs.ByRecursion.{has_shuffled}
+use Rattle.refusals.specs.Answers.{done, number_or}
 use Rattle.refusals.specs.declared.Refusal.{Refusal}
 use Rattle.entries.specs.Entry.{entered}
 use Rattle.listing.specs.Listing.{Listing, names, counted, after_entry, after_entries, if_taken, taken, no_entries, Sorted}
@@ -12,7 +13,7 @@ use Rattle.listing.proofs.Held.{all_listed}
 use Rattle.listing.proofs.SameRows.{same_sorted}
 use Rattle.listing.proofs.Runs.{list_sorted, list_holds}
 use Rattle.ceremony.specs.Model.{Held, Listed}
-use Rattle.ceremony.specs.Steps.{with_list, number_or, done}
+use Rattle.ceremony.specs.Steps.{with_list}
 use Rattle.ceremony.specs.Draws.{listing, why}
 use Rattle.scripts.specs.Script.{entry_of}
 use Rattle.scripts.proofs.Chains.{Leads, more}

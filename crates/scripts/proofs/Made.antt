@@ -17,7 +17,6 @@ use Rattle.protocol.specs.Finished.{party_left}
 use Rattle.protocol.proofs.AcceptsOnlyDrawn.{accepts_only_drawn}
 use Rattle.ceremony.specs.Model.{Ended}
 use Rattle.ceremony.specs.Reports.{protocol_left}
-use Rattle.laws.proofs.Protocols.{same_order}
 use Rattle.runs.specs.Reports.{Told}
 use Rattle.scripts.specs.Script.{Script, Right, among, row_of, rows_of, script_steps, entry_of, seal_step_of, opening_steps}
 use Rattle.scripts.specs.Fair.{script_file}
@@ -166,8 +165,7 @@ module _ (d : Protocol) (o : OfDraw d) where
         let p : map (party_left e.held.seals e.list.length) (range_with_len 0 e.parties) ≡ ps =
         ap (λ (n : ℕ). map (party_left e.held.seals e.list.length) (range_with_len 0 n)) (i.parties ∙ seals_many)
         ∙ sym (fill_by_all (party_left e.held.seals e.list.length) ps (length ps) no_party refl party_is) in
-        let q = same_order e.held.order e.list.count e.outcome
-        ∙ (i.order ∙ (ap (λ (rows : List (List ℕ)). ordered (drawn_order (length d.names) (sum_of d.bits_length rows) 0)) rows_are ∙ sym o.drawn)) in
+        let q = i.order ∙ (ap (λ (rows : List (List ℕ)). ordered (drawn_order (length d.names) (sum_of d.bits_length rows) 0)) rows_are ∙ sym o.drawn) in
         λ j. record { names = m.names j; bits_length = m.len j; parties = p j; order = q j }
 
 pub made_by_steps : MadeBySteps

@@ -7,7 +7,7 @@ use Rattle.std.proofs.lemmas.Bool.{eq-eqb, ne_eqb, le-ltb, lt-ltb, lt-leb, or_fr
 use Rattle.refusals.specs.declared.Refusal.{Refusal}
 use Rattle.refusals.specs.declared.Refusal.TheVariants.{OpeningLength}
 use Rattle.seals.specs.Seal.{seal_of}
-use Rattle.seals.specs.Records.{record_size, seal_in, has_opened, opening_in}
+use Rattle.seals.specs.Records.{record_size, seal_in, has_opened, opening_in, opened_count}
 use Rattle.seals.specs.Steps.{opening_fault, opened_at, opened}
 use Rattle.records.specs.Laws.{Same, OpeningKept}
 use Rattle.records.proofs.Kept.{opening_taken}
@@ -15,7 +15,7 @@ use Rattle.records.proofs.Places.{later_place}
 use Rattle.records.proofs.Turned.{sum_push}
 use Rattle.sum.specs.Sums.{xor_bytes, sum_of}
 use Rattle.ceremony.specs.Model.{Sealed}
-use Rattle.ceremony.specs.Steps.{with_seals, sum_after, opened_by, opening_step, opened_count}
+use Rattle.ceremony.specs.Steps.{with_seals, sum_after, opened_by, opening_step}
 use Rattle.ceremony.specs.Draws.{State, opening, step, stepped}
 use Rattle.laws.specs.Sound.{SoundState, InOpening}
 use Rattle.laws.proofs.Openings.{take_xor}

@@ -1,5 +1,5 @@
 -- What the draw of a script's file prints. Assumes nothing.
-use Rattle.std.proofs.Common.{◌≡◌, ℕ, Bool, false, List, [], ◌++◌, length, ap, ◌∙◌, arith}
+use Rattle.std.proofs.Common.{◌≡◌, ℕ, Bool, false, List, [], ◌++◌, ap, ◌∙◌}
 use Rattle.refusals.specs.declared.Refusal.{Refusal}
 use Rattle.texts.specs.Lines.{summary_lines}
 use Rattle.ceremony.specs.Model.{Ended}
@@ -16,7 +16,7 @@ use Rattle.scripts.proofs.Whole.{runs_whole}
 pub reported : (ss : List (ℕ × List ℕ)) (e : Ended) → after_steps fresh ss ≡ ended e → refusals_in fresh 1 ss ≡ [] → report_of (file_of ss) ≡ told_of [] false (ended e)
 reported ss e h k =
     let file : List ℕ = file_of ss in
-    let a = again ss (length file) (omega arith) in
+    let a = again ss in
     ap (λ (xs : List (ℕ × List ℕ)). told_of (refusal_lines (refusals_in fresh 1 xs)) (file_cut file) (after_steps fresh xs)) a.0
     ∙ (ap (λ (b : Bool). told_of (refusal_lines (refusals_in fresh 1 ss)) b (after_steps fresh ss)) a.1
     ∙ (ap (λ (rs : List (ℕ × Refusal)). told_of (refusal_lines rs) false (after_steps fresh ss)) k ∙ ap (told_of [] false) h))

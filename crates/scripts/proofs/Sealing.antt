@@ -2,12 +2,13 @@
 use Rattle.std.proofs.Common.{◌≡◌, ℕ, zero, suc, ◌+◌, ◌*◌, ◌<◌, ◌≤◌, List, [], map, length, get_or, drop, None, Ok, Result, sym, refl, ap, ◌∙◌, subst, ⊎_elim, mul-le-mul_left, arith}
 use Rattle.std.proofs.lemmas.List.{drop_more, drop_all}
 use Rattle.std.proofs.lemmas.Bool.{eq-eqb, ne_eqb, le-ltb, cases_lt}
+use Rattle.refusals.specs.Answers.{done, number_or}
 use Rattle.refusals.specs.declared.Refusal.{Refusal}
 use Rattle.seals.specs.Records.{record_size, seal_in}
 use Rattle.seals.specs.Steps.{seal_fault, sealed_at, sealed}
 use Rattle.records.proofs.Kept.{seal_taken}
 use Rattle.ceremony.specs.Model.{Sealed}
-use Rattle.ceremony.specs.Steps.{number_or, done, seal_step}
+use Rattle.ceremony.specs.Steps.{seal_step}
 use Rattle.ceremony.specs.Draws.{sealing, step, why}
 use Rattle.laws.specs.Sound.{InSealing}
 use Rattle.laws.proofs.Runs.{step_sound}

@@ -10,15 +10,15 @@ use Rattle.listing.specs.Laws.{RoomFor}
 use Rattle.listing.proofs.Memory.{sound_none, length_names}
 use Rattle.listing.proofs.Runs.{entries_keep}
 use Rattle.seals.specs.Seal.{seal_of}
-use Rattle.seals.specs.Records.{seal_in, has_opened, opening_in}
+use Rattle.seals.specs.Records.{seal_in, has_opened, opening_in, opened_count}
 use Rattle.records.specs.Records.{row_of as record-row, opened_rows}
 use Rattle.records.proofs.Rows.{row_none}
 use Rattle.sum.specs.Sums.{sum_of}
-use Rattle.order.specs.Drawings.{drawn_order, outcome}
+use Rattle.order.specs.Drawings.{drawn_order}
 use Rattle.protocol.specs.Protocol.{word, ordered}
 use Rattle.ceremony.specs.declared.memory.ClosedList.{ClosedList}
 use Rattle.ceremony.specs.Model.{Listed, Sealed, Ended}
-use Rattle.ceremony.specs.Steps.{with_seals, with_order, closed_list, listing_closed, list_close, seals_close, opened_count, drawing_of, order_after, list_to_draw, closed_with, final_close}
+use Rattle.ceremony.specs.Steps.{with_seals, closed_list, listing_closed, list_close, seals_close, after_drawing, may_draw, closed_with, final_close}
 use Rattle.ceremony.specs.Draws.{listing, sealing, opening, ended}
 use Rattle.runs.specs.Reports.{zeros, fresh}
 use Rattle.laws.specs.Sound.{InListing}
@@ -202,14 +202,14 @@ module _ (σ : Script) (r : Right σ) where
 
   -- the end
   end : Ended
-  end = record { held = with_order opened_all.held (order_after opened_all); list = opened_all.list; parties = opened_all.parties; outcome = outcome (drawing_of opened_all) }
+  end = after_drawing opened_all
 
   ends : final_close opened_all ≡ Ok end
   unfolding end
   ends =
       let c = opened_so.sound.closed in
       let n = ne_eqb (opened_count opened_all.held.seals opened_all.list.length opened_all.parties) 0 (λ e. omega (arith, e, opened_so.count, r.some_comes)) in
-      let f : list_to_draw opened_all ≡ Ok opened_all.list = simp (n, le-ltb _ _ c.bits_room, le-ltb _ _ c.order_room) in
+      let f : may_draw opened_all ≡ Ok tt = simp (n, le-ltb _ _ c.bits_room, le-ltb _ _ c.order_room) in
       ap (closed_with opened_all) f
 
   whole : Leads fresh (script_steps σ) (ended end)

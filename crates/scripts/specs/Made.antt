@@ -2,8 +2,7 @@
 use Rattle.std.specs.Prelude.{◌≡◌, ℕ, List, Option}
 use Rattle.protocol.specs.Check.{verdict, accepted}
 use Rattle.protocol.specs.Draws.{Bytes}
-use Rattle.runs.specs.declared.report.Ending.TheVariants.{Finished}
-use Rattle.runs.specs.Reports.{report_of}
+use Rattle.runs.specs.Reports.{Finished, report_of}
 
 -- MADE BY STEPS: for every protocol that is accepted there is a file of bytes whose run ends and writes exactly it
 abbrev pub MadeBySteps : Type 0

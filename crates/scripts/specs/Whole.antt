@@ -2,7 +2,7 @@
 use Rattle.std.specs.Prelude.{◌≡◌, [], length}
 use Rattle.ceremony.specs.Model.{Ended}
 use Rattle.ceremony.specs.Draws.{ended}
-use Rattle.ceremony.specs.Steps.{opened_count}
+use Rattle.seals.specs.Records.{opened_count}
 use Rattle.ceremony.specs.Reports.{order_of}
 use Rattle.order.specs.Drawings.{drawn_order}
 use Rattle.protocol.specs.Protocol.{ordered}

@@ -43,8 +43,8 @@ fn tell(rt: &HostRuntime, file: &[u8], party: u8, opening: &[u8]) -> anyhow::Res
     };
     // The lines for refused steps are not printed: the party asks for its seal alone.
     let mut refusals = String::new(heap);
-    let (last, cut) = runs::run::run(Draw::Listing(Listing::begin(memory)), file, &mut refusals)?;
-    ensure!(!cut, "the file of steps ends inside a step");
+    let (last, read) = runs::run::run(Draw::Listing(Listing::begin(memory)), file, &mut refusals)?;
+    ensure!(read.is_ok(), "the file of steps ends inside a step");
     let mut text = [0; TEXT];
     let mut out = Output {
         memory: &mut text,

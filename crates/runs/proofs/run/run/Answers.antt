@@ -1,30 +1,22 @@
-use Rattle.std.proofs.Common.{length, refl, arith}
-use Rattle.runs.proofs.Turns.{ends, cuts, goes_on}
+use Rattle.std.proofs.Common.{rules}
+use Rattle.runs.proofs.Turns.{ends, goes_on}
 use Rattle.runs.proofs.run.run.Goals as goal
 
-pub loop-draw-init : goal.loop-draw-init
-loop-draw-init c =
-    (length c.args.file.now, record { within = omega arith; counted = omega arith; enough = omega arith; state = refl; cut = refl; text = refl })
+pub loop-before-init : goal.loop-before-init
+loop-before-init c = (search rules, search rules, record { state = search rules; cut = search rules; text = search rules })
 
-pub returns-in-End : goal.returns-in-End
-returns-in-End c =
-    let i = c.loop-draw.invariant in
-    let p = ends _ _ _ _ _ _ _ _ _ i.1 c.in-End.ensures in
-    record { state = p.0; cut = p.1; text = p.2 }
+pub returns-in-Err-clause-state : goal.returns-in-Err-clause-state
+returns-in-Err-clause-state c = (ends _ _ _ _ _ _ _ c.loop-before.invariant.2 (search rules)).0
 
-pub returns-in-Cut : goal.returns-in-Cut
-returns-in-Cut c =
-    let i = c.loop-draw.invariant in
-    let p = cuts _ _ _ _ _ _ _ _ _ i.1 c.in-Cut.ensures in
-    record { state = p.0; cut = p.1; text = p.2 }
+pub returns-in-Err-clause-text : goal.returns-in-Err-clause-text
+returns-in-Err-clause-text c = (ends _ _ _ _ _ _ _ c.loop-before.invariant.2 (search rules)).1
 
-pub loop-draw-smaller : goal.loop-draw-smaller
-loop-draw-smaller c =
-    let i = c.loop-draw.invariant in
-    let p = goes_on _ _ _ _ _ _ _ _ _ i.1 _ _ _ c.in-Step.ensures _ _ c.in_ok-draw-in-Step.ensures.state c.in_ok-draw-in-Step.ensures.text in
-    omega (arith, p.0, p.1.1.within)
+pub loop-before-preserved : goal.loop-before-preserved
+loop-before-preserved c =
+    (search rules, search rules, goes_on _ _ _ _ _ _ _ c.loop-before.invariant.2 _ _ _ (search rules) (search rules) _ _ (search rules) (search rules) _ _ c.in_ok-draw.ensures.state c.in_ok-draw.ensures.text)
 
-pub loop-draw-preserved : goal.loop-draw-preserved
-loop-draw-preserved c =
-    let i = c.loop-draw.invariant in
-    (goes_on _ _ _ _ _ _ _ _ _ i.1 _ _ _ c.in-Step.ensures _ _ c.in_ok-draw-in-Step.ensures.state c.in_ok-draw-in-Step.ensures.text).1
+pub returns-clause-state : goal.returns-clause-state
+returns-clause-state c = (ends _ _ _ _ _ _ _ c.loop-before.invariant.2 (search rules)).0
+
+pub returns-clause-text : goal.returns-clause-text
+returns-clause-text c = (ends _ _ _ _ _ _ _ c.loop-before.invariant.2 (search rules)).1
