@@ -18,7 +18,8 @@ use Rattle.step_file.specs.Reading.{end, cut, length_of}
 use Rattle.step_file.specs.Reading as reading
 use Rattle.step_file.specs.File.{more_steps, steps_of, file_steps}
 use Rattle.runs.specs.Runs.{after_steps}
-use Rattle.runs.specs.Reports.{zeros, fresh, run_of}
+use Rattle.runs.specs.Reports.{fresh, run_of}
+use Rattle.runs.specs.Rooms.{room_for}
 use Rattle.laws.proofs.Answers.{passed, ok_is}
 
 -- rows of bytes put together and taken apart
@@ -151,5 +152,5 @@ steps_typed s [] h b = h
 steps_typed s (x ∷ xs) h b = steps_typed (step s x.0 x.1).0 xs (step_typed s x.0 x.1 h b.0) b.1
 
 pub runs_typed : (file : List ℕ) → Bytes file → Typed (run_of file)
-unfolding zeros
+unfolding room_for
 runs_typed file h = steps_typed fresh (file_steps file) (bytes_replicate 130000, bytes_replicate 2105535) (steps_bytes (length file) file h)

@@ -1,3 +1,4 @@
 pub mod NoDraws
+pub mod Rooms
 pub mod Runs
 pub mod Reports

@@ -1,5 +1,5 @@
 -- What a run of a file tells. Assumes nothing.
-use Rattle.std.specs.Prelude.{ℕ, Bool, true, false, List, [], replicate, vec_items, string_bytes, Ok, Err, Result}
+use Rattle.std.specs.Prelude.{ℕ, Bool, true, false, List, [], vec_items, string_bytes, Ok, Err, Result}
 use Rattle.ceremony.specs.Model.{Held, Ended, no_entries}
 use Rattle.ceremony.specs.Draws.{State, listing, sealing, opening, ended}
 use Rattle.ceremony.specs.Reports.{summary_of, left_out_of, protocol_left}
@@ -9,7 +9,7 @@ use Rattle.runs.specs.declared.no_draw.NoDraw.{NoDraw}
 use Rattle.runs.specs.declared.no_draw.NoDraw.TheVariants.{Unfinished as NotFinished, Cut as CutOff}
 use Rattle.runs.specs.declared.report.Report.{Report}
 use Rattle.runs.specs.declared.report.Finish.{Finish}
-use Rattle.runs.specs.declared.report.Room.{Room}
+use Rattle.runs.specs.Rooms.{room_for}
 use Rattle.runs.specs.Runs.{after_steps, refusals_in, refusal_lines}
 
 -- how a file of steps ends: with a draw that is finished, without one, or inside a step
@@ -56,12 +56,9 @@ told_end lines (Err why) = refusals_alone lines (ending_of why)
 abbrev pub told_of : List ℕ → Bool → State → Told
 told_of lines cut s = told_end lines (end_of cut s)
 
--- memory that suffices for 2,000 names and 255 parties of 8,192 bytes, all zeros
-unfoldable pub zeros : Held
-zeros = record { slots = replicate 130000 0; index = replicate 2000 0; seals = replicate 2105535 0; bits = replicate 8192 0; order = replicate 2000 0 }
-
-abbrev pub contents : Room → Held
-contents m = record { slots = vec_items m.slots; index = vec_items m.index; seals = vec_items m.seals; bits = vec_items m.bits; order = vec_items m.order }
+-- the memory of a draw of up to 2,000 names and 255 parties
+abbrev pub zeros : Held
+zeros = room_for 255
 
 abbrev pub fresh : State
 fresh = listing (no_entries zeros)

@@ -8,7 +8,9 @@
 
 mod no_draw;
 mod report;
+mod room;
 pub mod run;
 
 pub use no_draw::NoDraw;
 pub use report::{Finish, Report, draw};
+pub use room::Room;

@@ -5,22 +5,15 @@ ghost use Rattle.ceremony.specs.Draws.{state};
 ghost use Rattle.ceremony.specs.Model.{as_ended};
 ghost use Rattle.ceremony.specs.Reports.{summary_of, left_out_of, protocol_left};
 ghost use Rattle.protocol.specs.Protocol.{written};
-ghost use Rattle.runs.specs.Reports.{report, end_of, told_of, report_of, contents, zeros};
+ghost use Rattle.runs.specs.Reports.{report, end_of, told_of, report_of};
 
 use crate::no_draw::NoDraw;
+use crate::room::Room;
 use crate::run::run;
-use ceremony::{Draw, Finished, Listing, Memory};
+use ceremony::{Draw, Finished, Listing};
+use seals::MOST_PARTIES;
 use std::alloc::{AllocError, Global};
 use step_file::CutShort;
-
-// Room for 2,000 names in slots of 65 bytes, and for 255 parties' records of 8,257 bytes.
-const NAMES: usize = 2_000;
-
-const SLOTS: usize = 130_000;
-
-const LONGEST: usize = 8_192;
-
-const RECORDS: usize = 2_105_535;
 
 // A line for each refused step, and what is told of the draw, if the file ends with one.
 #[derive(Drop)]
@@ -80,46 +73,13 @@ fn tell(
     Ok(Report { refusals, finish })
 }
 
-// The memory of a draw.
-#[derive(Drop)]
-struct Room {
-    slots: Vec<u8>,
-    index: Vec<u16>,
-    seals: Vec<u8>,
-    bits: Vec<u8>,
-    order: Vec<u16>,
-}
-
-fn make_room(heap: Global) -> Result<Room, AllocError>
-    ensures { IfOk result (λ m. contents m ≡ zeros) }
-{
-    let slots = vec![in heap; 0u8; SLOTS]?;
-    let index = vec![in heap; 0u16; NAMES]?;
-    let seals = vec![in heap; 0u8; RECORDS]?;
-    let bits = vec![in heap; 0u8; LONGEST]?;
-    let order = vec![in heap; 0u16; NAMES]?;
-    Ok(Room {
-        slots,
-        index,
-        seals,
-        bits,
-        order,
-    })
-}
-
 // The whole draw of a file of steps.
 pub fn draw(heap: Global, file: &[u8]) -> Result<Report, AllocError>
     ensures { IfOk result (λ t. report t ≡ report_of file.now) }
 {
-    let mut room = make_room(heap)?;
-    let memory = Memory {
-        slots: room.slots.as_mut_slice(),
-        index: room.index.as_mut_slice(),
-        seals: room.seals.as_mut_slice(),
-        bits: room.bits.as_mut_slice(),
-        order: room.order.as_mut_slice(),
-    };
+    let mut room = Room::new(heap, MOST_PARTIES)?;
+    let start = Draw::Listing(Listing::begin(room.lend()));
     let mut refusals = String::new(heap);
-    let (last, read) = run(Draw::Listing(Listing::begin(memory)), file, &mut refusals)?;
+    let (last, read) = run(start, file, &mut refusals)?;
     tell(heap, &last, read, refusals)
 }

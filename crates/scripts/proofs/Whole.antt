@@ -21,6 +21,7 @@ use Rattle.ceremony.specs.Model.{Listed, Sealed, Ended}
 use Rattle.ceremony.specs.Steps.{with_seals, closed_list, listing_closed, list_close, seals_close, after_drawing, may_draw, closed_with, final_close}
 use Rattle.ceremony.specs.Draws.{listing, sealing, opening, ended}
 use Rattle.runs.specs.Reports.{zeros, fresh}
+use Rattle.runs.specs.Rooms.{room_for}
 use Rattle.laws.specs.Sound.{InListing}
 use Rattle.laws.proofs.Listings.{list_close_sound}
 use Rattle.laws.proofs.Sealings.{seals_close_sound}
@@ -35,23 +36,23 @@ use Rattle.scripts.proofs.Opening as openings
 
 -- the memory of a run is large enough
 zeros_slots : length zeros.slots ≡ 130000
-unfolding zeros
+unfolding room_for
 zeros_slots = length-replicate {A = ℕ} 130000 0
 
 zeros_index : length zeros.index ≡ 2000
-unfolding zeros
+unfolding room_for
 zeros_index = length-replicate {A = ℕ} 2000 0
 
 zeros_seals : length zeros.seals ≡ 2105535
-unfolding zeros
+unfolding room_for
 zeros_seals = length-replicate {A = ℕ} 2105535 0
 
 zeros_bits : length zeros.bits ≡ 8192
-unfolding zeros
+unfolding room_for
 zeros_bits = length-replicate {A = ℕ} 8192 0
 
 zeros_order : length zeros.order ≡ 2000
-unfolding zeros
+unfolding room_for
 zeros_order = length-replicate {A = ℕ} 2000 0
 
 -- where nobody has opened there is nothing to add up

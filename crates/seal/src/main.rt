@@ -3,21 +3,15 @@
 #![tactic(auto)]
 
 use anyhow::{Context, bail, ensure};
-use ceremony::{Draw, Listing, Memory};
+use ceremony::{Draw, Listing};
 use output::Output;
 use program::finish;
+use runs::Room;
 use seal_text::put_seal;
 use std::process::ExitCode;
 use std::{env, fs};
 
 const USAGE: &str = "usage: seal STEPS PARTY OPENING";
-
-// Memory for a list of 2,000 names in slots of 65 bytes, and for its close; no seals are kept.
-const NAMES: usize = 2_000;
-
-const SLOTS: usize = 130_000;
-
-const LONGEST: usize = 8_192;
 
 // The longest text has 155 bytes.
 const TEXT: usize = 256;
@@ -29,21 +23,12 @@ fn read(rt: &HostRuntime, path: &str) -> anyhow::Result<Vec<u8>> {
 // Prints the seal, or on stderr why there is none.
 fn tell(rt: &HostRuntime, file: &[u8], party: u8, opening: &[u8]) -> anyhow::Result<bool> {
     let heap = rt.alloc();
-    let mut slots = vec![in heap; 0u8; SLOTS]?;
-    let mut index = vec![in heap; 0u16; NAMES]?;
-    let mut seals = vec![in heap; 0u8; 0]?;
-    let mut bits = vec![in heap; 0u8; LONGEST]?;
-    let mut order = vec![in heap; 0u16; NAMES]?;
-    let memory = Memory {
-        slots: slots.as_mut_slice(),
-        index: index.as_mut_slice(),
-        seals: seals.as_mut_slice(),
-        bits: bits.as_mut_slice(),
-        order: order.as_mut_slice(),
-    };
+    // No seals are kept.
+    let mut room = Room::new(heap, 0)?;
+    let start = Draw::Listing(Listing::begin(room.lend()));
     // The lines for refused steps are not printed: the party asks for its seal alone.
     let mut refusals = String::new(heap);
-    let (last, read) = runs::run::run(Draw::Listing(Listing::begin(memory)), file, &mut refusals)?;
+    let (last, read) = runs::run::run(start, file, &mut refusals)?;
     ensure!(read.is_ok(), "the file of steps ends inside a step");
     let mut text = [0; TEXT];
     let mut out = Output {
