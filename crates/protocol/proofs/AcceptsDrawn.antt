@@ -1,5 +1,5 @@
 -- The protocol of a draw, as it is read again. Assumes nothing.
-use Rattle.std.proofs.Common.{◌≡◌, ℕ, zero, suc, ◌+◌, ◌-◌, ◌*◌, ◌<◌, ◌≤◌, true, false, cond, not, eqb, List, [], ◌∷◌, ◌++◌, map, length, get_or, drop, IfSome, Some, None, Option, sym, refl, ap, ◌∙◌, subst, add-one, arith}
+use Rattle.std.proofs.Common.{◌≡◌, ℕ, zero, suc, ◌+◌, ◌-◌, ◌<◌, ◌≤◌, true, false, not, List, [], ◌∷◌, ◌++◌, map, length, get_or, drop, IfSome, Some, None, Option, sym, refl, ap, ◌∙◌, add-one, arith}
 use Rattle.std.specs.List.{flat_map}
 use Rattle.std.specs.Option.{option_map}
 use Rattle.std.specs.Ordering.{is_lt}
@@ -7,7 +7,7 @@ use Rattle.std.specs.Str.{bytes_eq}
 use Rattle.std.proofs.lemmas.List.FromFn.{fill_by_all}
 use Rattle.std.proofs.lemmas.Slice.Eq.{bytes_eq-Decides}
 use Rattle.std.proofs.lemmas.List.{drop_all, take_at, length-append}
-use Rattle.std.proofs.lemmas.Bool.{cond-true}
+use Rattle.std.proofs.lemmas.Bool.Decides.{nat_tests}
 use Rattle.refusals.specs.declared.Refusal.TheVariants.{WrongOrder}
 use Rattle.sha256.specs.Sha256.{sha256}
 use Rattle.entries.specs.Rows.{packed_rows, row_order}
@@ -67,8 +67,7 @@ module _ (d : Protocol) (o : OfDraw d) where
   behind_names : drop (length_at B) B ≡ middle
   unfolding length_at
   behind_names =
-      ap (λ (k : ℕ). drop (name_at B k) B) count
-      ∙ (name_tail B d.names middle start n (omega arith) ∙ ap (λ (z : List (List ℕ)). packed_rows z ++ middle) (drop_all n d.names (omega arith)))
+      rw count (name_tail B d.names middle start n (omega arith) ∙ rw (drop_all n d.names (omega arith)) refl)
 
   bits : bits_length B ≡ d.bits_length
   unfolding bits_length
@@ -87,7 +86,7 @@ module _ (d : Protocol) (o : OfDraw d) where
       let p = o.each_party k h in
       record {
         seal_long = p.long;
-        long = let P : ℕ → Type 0 = λ m. Long m (get_or d.parties k no_party).opening in subst P (sym bits) (long_from _ _ _ k (get_or d.parties k no_party).opening p.opened);
+        long = rw bits (long_from _ _ _ k (get_or d.parties k no_party).opening p.opened);
       }
 
   party_same : (k : ℕ) → k < length d.parties → party_of B k ≡ get_or d.parties k no_party
@@ -99,9 +98,7 @@ module _ (d : Protocol) (o : OfDraw d) where
   behind_parties : drop (order_at B) B ≡ written_order d.order
   unfolding order_at
   behind_parties =
-      ap (λ (k : ℕ). drop (party_at B k) B) party_number
-      ∙ (party_tail B d.parties (written_order d.order) parties_start shaped (length d.parties) (omega arith)
-      ∙ ap (λ (z : List Party). flat_map written_party z ++ written_order d.order) (drop_all (length d.parties) d.parties (omega arith)))
+      rw party_number (party_tail B d.parties (written_order d.order) parties_start shaped (length d.parties) (omega arith) ∙ rw (drop_all (length d.parties) d.parties (omega arith)) refl)
 
   hash_same : hash_of B ≡ sha256 (packed_rows d.names)
   hash_same =
@@ -110,47 +107,42 @@ module _ (d : Protocol) (o : OfDraw d) where
       ap sha256 (take_at (packed_rows d.names) middle (length_at B - 2) l)
 
   drawing_same : drawing_of B ≡ drawing_from n d.bits_length d.parties
-  drawing_same =
-      ap (λ (k : ℕ). drawing_from k (bits_length B) (parties_of B)) count
-      ∙ (ap (λ (k : ℕ). drawing_from n k (parties_of B)) bits ∙ ap (drawing_from n d.bits_length) parties_same)
+  drawing_same = rw (count, bits, parties_same) refl
 
   -- the order has a number for each name
   whole_order : (ns : List ℕ) (D : Drawing) → D ≡ drawing_from n d.bits_length d.parties → Some ns ≡ ordered D → length ns ≡ n
   whole_order ns (drawn ms used) e h =
       ap length (let z : ns ≡ ms = cc in z) ∙ drawn_length n (sum_of d.bits_length (map (drop 32) (openings d.parties))) 0 ms used (sym e)
-  whole_order ns run_out e h = absurd (let z : ◌≡◌ {A = ℕ} 0 1 = cc in omega arith)
+  whole_order ns run_out e h = cc
 
   size_by : (r : Option (List ℕ)) → d.order ≡ r → drop (order_at B) B ≡ written_order r → size B ≡ length B
   unfolding size
   size_by None e t =
       let l = tail_long B (order_at B) (written_order None) t (omega arith) in
       let w : get_or B (order_at B) 0 ≡ 0 = tail_first B (order_at B) _ t in
-      ap (λ (b : ℕ). order_at B + 1 + cond (eqb b 1) (2 * name_count B) 0) w ∙ omega arith
+      grind (arith, nat_tests)
   size_by (Some ns) e t =
       let l = tail_long B (order_at B) (written_order (Some ns)) t (omega arith) in
       let w : get_or B (order_at B) 0 ≡ 1 = tail_first B (order_at B) _ t in
       let m : length ns ≡ n = whole_order ns (drawing_from n d.bits_length d.parties) refl (sym e ∙ o.drawn) in
-      ap (λ (b : ℕ). order_at B + 1 + cond (eqb b 1) (2 * name_count B) 0) w ∙ omega (arith, words_length ns, count)
+      let long = words_length ns in
+      grind (arith, nat_tests, count)
 
   order_right : (r : Option (List ℕ)) → drop (order_at B) B ≡ written_order r → None ≡ order_fault B r
   order_right None t =
       let w : get_or B (order_at B) 0 ≡ 0 = tail_first B (order_at B) _ t in
-      sym (ap (λ (b : ℕ). cond (eqb b 0) None (Some (order_at B))) w)
+      grind (arith, nat_tests)
   order_right (Some ns) t =
       let w : get_or B (order_at B) 0 ≡ 1 = tail_first B (order_at B) _ t in
       let s : bytes_eq (numbers_at B (order_at B + 1) (length ns)) ns ≡ true =
       (bytes_eq-Decides (numbers_at B (order_at B + 1) (length ns)) ns).1 (numbers_are B (order_at B + 1) ns (tail_drop B (order_at B) _ t 1)) in
-      sym
-      (ap (λ (b : ℕ). cond (eqb b 1) (cond (bytes_eq (numbers_at B (order_at B + 1) (length ns)) ns) None (Some (order_at B + 1))) (Some (order_at B))) w
-      ∙ cond-true _ None (Some (order_at B + 1)) s)
+      grind (arith, nat_tests)
 
   above : (k : ℕ) → k < n → is_lt (row_order (name_before B k) (name_of B k)) ≡ true
   above zero h =
-      ap (λ (x : List ℕ). is_lt (row_order [] x)) (name_is B d.names middle start 0 h) ∙ first_above (get_or d.names 0 []) (o.each_name 0 h).some
+      rw (name_is B d.names middle start 0 h) (first_above (get_or d.names 0 []) (o.each_name 0 h).some)
   above (suc k) h =
-      ap (λ (x : List ℕ). is_lt (row_order x (name_of B (suc k)))) (name_is B d.names middle start k (omega arith))
-      ∙ (ap (λ (x : List ℕ). is_lt (row_order (get_or d.names k []) x)) (name_is B d.names middle start (suc k) h)
-      ∙ (ap (λ (i : ℕ). is_lt (row_order (get_or d.names k []) (get_or d.names i []))) (sym (add-one k)) ∙ ap is_lt (o.sorted k (omega arith))))
+      rw (name_is B d.names middle start k (omega arith), name_is B d.names middle start (suc k) h, ← add-one k) (ap is_lt (o.sorted k (omega arith)))
 
   fit : (k : ℕ) → k < name_count B → Fit B k
   fit k l =
@@ -191,8 +183,8 @@ module _ (d : Protocol) (o : OfDraw d) where
         each_opening =
             λ k h.
             let l : k < length d.parties = omega (arith, party_number) in
-            ap (λ (x : List ℕ). wrong_opening x k (party_of B k)) hash_same
-            ∙ (ap (wrong_opening (sha256 (packed_rows d.names)) k) (party_same k l)
+            rw hash_same
+            (ap (wrong_opening (sha256 (packed_rows d.names)) k) (party_same k l)
             ∙ right_from _ (get_or d.parties k no_party).seal d.bits_length k (get_or d.parties k no_party).opening (o.each_party k l).opened);
         some_opened = λ z. omega (arith, opened_same);
       }

@@ -1,5 +1,5 @@
 -- Whatever is accepted is the protocol of a draw. Assumes nothing.
-use Rattle.std.proofs.Common.{◌≡◌, ℕ, zero, suc, ◌+◌, ◌*◌, ◌<◌, ◌≤◌, Bool, true, false, cond, eqb, List, [], ◌∷◌, ◌++◌, map, length, get_or, take, drop, Some, None, Option, Ordering, Less, Equal, Greater, sym, refl, ap, ◌∙◌, subst, append_assoc, add-one, arith}
+use Rattle.std.proofs.Common.{◌≡◌, ℕ, suc, ◌+◌, ◌*◌, ◌<◌, ◌≤◌, Bool, true, false, cond, eqb, List, [], ◌∷◌, ◌++◌, map, length, get_or, take, drop, Some, None, Option, Ordering, Less, Equal, Greater, sym, refl, ap, ◌∙◌, append_assoc, add-one, arith}
 use Rattle.std.specs.List.{range_with_len, flat_map}
 use Rattle.std.specs.Option.{option_map}
 use Rattle.std.specs.Ordering.{is_lt}
@@ -7,11 +7,12 @@ use Rattle.std.specs.Str.{bytes_eq}
 use Rattle.std.proofs.lemmas.List.FromFn.{length-map-range_with_len, get_or-map-range_with_len}
 use Rattle.std.proofs.lemmas.Slice.Eq.{bytes_eq-Decides}
 use Rattle.std.proofs.lemmas.List.{take_all, take_more}
-use Rattle.std.proofs.lemmas.Bool.{not-false, false≢true, eqb-true}
+use Rattle.std.proofs.lemmas.Bool.Decides.{nat_tests}
+use Rattle.std.proofs.lemmas.Bool.{not-false}
 use Rattle.refusals.specs.declared.Refusal.{Refusal}
 use Rattle.refusals.specs.declared.Refusal.TheVariants.{WrongOrder}
 use Rattle.sha256.specs.Sha256.{sha256}
-use Rattle.entries.specs.Rows.{packed_rows, row_order}
+use Rattle.entries.specs.Rows.{packed_rows}
 use Rattle.seals.specs.Seal.{seal_of}
 use Rattle.listing.specs.Listing.{Sorted}
 use Rattle.order.specs.Drawings.{Drawing, drawn, run_out}
@@ -19,26 +20,25 @@ use Rattle.sum.specs.Sums.{sum_of}
 use Rattle.protocol.specs.Check.{Verdict, accepted, hash_of, is_wrong, opened_count, drawing_of, order_fault, early_fault, judged, judged_order, verdict}
 use Rattle.protocol.specs.Draws.{Bytes, Name, PartyOf, no_party, OfDraw, acceptance, AcceptsOnlyDrawn}
 use Rattle.protocol.specs.Layout.{name_count, name_at, name_of, length_at, bits_length, party_count, opening_size, party_at, party_of, parties_of, order_at, numbers_at, size}
-use Rattle.protocol.specs.Protocol.{Party, Protocol, word, written_party, written_order, written, openings, drawing_from, ordered}
+use Rattle.protocol.specs.Protocol.{Protocol, word, written_order, written, openings, ordered}
 use Rattle.order.proofs.Slices.{drawn_length}
 use Rattle.protocol.proofs.Fronts.{part_long, bytes_part}
-use Rattle.protocol.proofs.Passes.{else_none, map_none, Ranged, Sealed, shape_passed, range_passed, seal_passed, early_passed}
+use Rattle.protocol.proofs.Passes.{map_none, Ranged, Sealed, shape_passed, range_passed, seal_passed, early_passed}
 use Rattle.protocol.proofs.Places.{order_last}
 use Rattle.protocol.proofs.Rewritten.{name_long, names_stand, party_within, order_front, numbers_front}
 
 less_from : (r : Ordering) → is_lt r ≡ true → r ≡ Less
 less_from Less e = refl
-less_from Equal e = absurd (false≢true e)
-less_from Greater e = absurd (false≢true e)
+less_from Equal e = cc
+less_from Greater e = cc
 
 positive : (n : ℕ) → (n ≡ 0 → ⊥) → 0 < n
-positive zero h = absurd (h refl)
-positive (suc n) h = omega arith
+positive n h = grind arith
 
 -- a verdict is an acceptance only where no pass found a fault
 judged_none : (f : Option Refusal) (v : Verdict) (n p k : ℕ) (r : Option (List ℕ)) → judged f v ≡ accepted n p k r → (f ≡ None) × (v ≡ accepted n p k r)
 judged_none None v n p k r e = (refl, e)
-judged_none (Some why) v n p k r e = absurd (let z : ◌≡◌ {A = ℕ} 0 1 = cc in omega arith)
+judged_none (Some why) v n p k r e = cc
 
 -- a party that is read, by the byte that tells whether it opened
 module _ (hash : List ℕ) (L k : ℕ) (seal x : List ℕ) (long : length seal ≡ 32) (bytes : Bytes seal) (x_bytes : Bytes x) where
@@ -92,9 +92,7 @@ module _ (B : List ℕ) (byte : Bytes B) (whole : size B ≡ length B) (r : Rang
   sorted : Sorted names
   sorted i l =
       let h : i + 1 < name_count B = omega (arith, count) in
-      let e : is_lt (row_order (name_of B i) (name_of B (suc i))) ≡ true = (r.each_name (suc i) (omega arith)).above in
-      ap (λ (z : List ℕ). row_order z (get_or names (i + 1) [])) (name_same i (omega arith))
-      ∙ (ap (row_order (name_of B i)) (name_same (i + 1) h ∙ ap (name_of B) (add-one i)) ∙ less_from _ e)
+      rw (name_same i (omega arith), name_same (i + 1) h, add-one i) (less_from _ (r.each_name (suc i) (omega arith)).above)
 
   party_long : (k : ℕ) → k < party_count B → party_at B k + 33 + opening_size (get_or B (party_at B k + 32) 0) (bits_length B) ≤ length B
   party_long k h = let w = party_within B byte whole k h in let o = order_last B in omega arith
@@ -102,8 +100,7 @@ module _ (B : List ℕ) (byte : Bytes B) (whole : size B ≡ length B) (r : Rang
   opening_long : (k : ℕ) → k < party_count B → eqb (get_or B (party_at B k + 32) 0) 1 ≡ true → length (take (32 + bits_length B) (drop (party_at B k + 33) B)) ≡ 32 + bits_length B
   opening_long k h t =
       let w = party_long k h in
-      let z : opening_size (get_or B (party_at B k + 32) 0) (bits_length B) ≡ 32 + bits_length B = ap (λ (x : Bool). cond x (32 + bits_length B) 0) t in
-      part_long B (party_at B k + 33) (32 + bits_length B) (omega arith)
+      part_long B (party_at B k + 33) (32 + bits_length B) (grind (arith, nat_tests))
 
   each_party : (k : ℕ) → k < length (parties_of B) → PartyOf (sha256 (packed_rows names)) (bits_length B) k (get_or (parties_of B) k no_party)
   each_party k l =
@@ -113,9 +110,7 @@ module _ (B : List ℕ) (byte : Bytes B) (whole : size B ≡ length B) (r : Rang
       let p : PartyOf (hash_of B) (bits_length B) k (party_of B k) =
       party_by (hash_of B) (bits_length B) k (take 32 (drop at B)) (take (32 + bits_length B) (drop (at + 33) B)) (part_long B at 32 (omega arith)) (bytes_part B byte at 32)
       (bytes_part B byte (at + 33) (32 + bits_length B)) (eqb (get_or B (at + 32) 0) 1) (opening_long k h) (s.each_opening k h) in
-      let P : List ℕ → Type 0 = λ hash. PartyOf hash (bits_length B) k (get_or (parties_of B) k no_party) in
-      let Q : Party → Type 0 = λ q. PartyOf (hash_of B) (bits_length B) k q in
-      subst P (sym hash_same) (subst Q (sym (party_same k h)) p)
+      rw (hash_same, party_same k h) p
 
   -- one byte tells the number of parties
   few : length (parties_of B) ≤ 255
@@ -137,50 +132,36 @@ module _ (B : List ℕ) (byte : Bytes B) (whole : size B ≡ length B) (r : Rang
         few_parties = few;
         each_party = each_party;
         some_opened = positive (opened_count B) s.some_opened;
-        drawn = ap (λ (k : ℕ). ordered (drawing_from k (bits_length B) (parties_of B))) (sym count);
+        drawn = rw count refl;
       }
 
   -- the order as it stands
   whole_order : (ns : List ℕ) (D : Drawing) → D ≡ drawing_of B → ordered D ≡ Some ns → length ns ≡ name_count B
   whole_order ns (drawn ms used) e h =
       ap length (let z : ns ≡ ms = cc in z) ∙ drawn_length (name_count B) (sum_of (bits_length B) (map (drop 32) (openings (parties_of B)))) 0 ms used (sym e)
-  whole_order ns run_out e h = absurd (let z : ◌≡◌ {A = ℕ} 0 1 = cc in omega arith)
+  whole_order ns run_out e h = cc
 
   order_by : (o : Option (List ℕ)) → ordered (drawing_of B) ≡ o → order_fault B o ≡ None → B ≡ take (order_at B) B ++ written_order o
   unfolding size
   order_by None e g =
-      let w : get_or B (order_at B) 0 ≡ 0 = eqb-true _ _ (else_none (eqb (get_or B (order_at B) 0) 0) (order_at B) g) in
-      let z : size B ≡ order_at B + 1 = ap (λ (b : ℕ). order_at B + 1 + cond (eqb b 1) (2 * name_count B) 0) w ∙ omega arith in
-      sym (take_all (order_at B + 1) B (omega arith))
-      ∙ (take_more B (order_at B) 0 (omega arith) ∙ ap (λ (b : ℕ). take (order_at B) B ++ (b ∷ [])) w)
-  order_by (Some ns) e g = go (eqb (get_or B (order_at B) 0) 1) refl g
-    where
-      go : (t : Bool) → eqb (get_or B (order_at B) 0) 1 ≡ t → cond t (cond (bytes_eq (numbers_at B (order_at B + 1) (length ns)) ns) None (Some (order_at B + 1))) (Some (order_at B)) ≡ None
-          → B ≡ take (order_at B) B ++ (1 ∷ flat_map word ns)
-      go false u h = absurd (let z : ◌≡◌ {A = ℕ} 0 1 = cc in omega arith)
-      go true u h =
-          let at : ℕ = order_at B + 1 in
-          let w : get_or B (order_at B) 0 ≡ 1 = eqb-true _ _ u in
-          let m : length ns ≡ name_count B = whole_order ns (drawing_of B) refl e in
-          let same : numbers_at B at (length ns) ≡ ns = (bytes_eq-Decides (numbers_at B at (length ns)) ns).0 (else_none (bytes_eq (numbers_at B at (length ns)) ns) at h) in
-          let z : size B ≡ at + 2 * name_count B = ap (λ (b : ℕ). order_at B + 1 + cond (eqb b 1) (2 * name_count B) 0) w in
-          sym (take_all (at + 2 * length ns) B (omega arith))
-          ∙ (numbers_front B byte whole at (length ns) (omega arith)
-          ∙ (ap (λ (x : List ℕ). take at B ++ flat_map word x) same
-          ∙ (ap (λ (x : List ℕ). x ++ flat_map word ns) (take_more B (order_at B) 0 (omega arith) ∙ ap (λ (b : ℕ). take (order_at B) B ++ (b ∷ [])) w)
-          ∙ append_assoc (take (order_at B) B) (1 ∷ []) (flat_map word ns))))
+      let w : get_or B (order_at B) 0 ≡ 0 = grind (arith, nat_tests) in
+      let z : size B ≡ order_at B + 1 = grind (arith, nat_tests) in
+      sym (take_all (order_at B + 1) B (omega arith)) ∙ rw (sym w) (take_more B (order_at B) 0 (omega arith))
+  order_by (Some ns) e g =
+      let at : ℕ = order_at B + 1 in
+      let w : get_or B (order_at B) 0 ≡ 1 = grind (arith, nat_tests) in
+      let m : length ns ≡ name_count B = whole_order ns (drawing_of B) refl e in
+      let t : bytes_eq (numbers_at B at (length ns)) ns ≡ true = grind (arith, nat_tests) in
+      let same : numbers_at B at (length ns) ≡ ns = (bytes_eq-Decides (numbers_at B at (length ns)) ns).0 t in
+      let z : size B ≡ at + 2 * name_count B = grind (arith, nat_tests) in
+      sym (take_all (at + 2 * length ns) B (omega arith))
+      ∙ (numbers_front B byte whole at (length ns) (omega arith)
+      ∙ rw (same, take_more B (order_at B) 0 (omega arith), w) (append_assoc (take (order_at B) B) (1 ∷ []) (flat_map word ns)))
 
   pub rewritten : written told_draw ≡ B
   rewritten =
-      let order : List ℕ = written_order (ordered (drawing_of B)) in
-      let parties : List ℕ = flat_map written_party (parties_of B) in
-      ap (λ (k : ℕ). word k ++ (packed_rows names ++ (word (bits_length B) ++ (length (parties_of B) ∷ (parties ++ order))))) count
-      ∙ (ap (λ (k : ℕ). word (name_count B) ++ (packed_rows names ++ (word (bits_length B) ++ (k ∷ (parties ++ order))))) party_number
-      ∙ (sym (regroup (word (name_count B)) (packed_rows names) (word (bits_length B)) parties order (party_count B))
-      ∙ (ap (λ (z : List ℕ). z ++ order) (sym (order_front B byte whole r.each_mark)) ∙ sym (order_by (ordered (drawing_of B)) refl f))))
-    where
-      regroup : (a b c e o : List ℕ) (x : ℕ) → (a ++ (b ++ (c ++ (x ∷ e)))) ++ o ≡ a ++ (b ++ (c ++ (x ∷ (e ++ o))))
-      regroup a b c e o x = simp append_assoc
+      rw (count, party_number)
+      (sym (order_by (ordered (drawing_of B)) refl f ∙ (ap (λ (z : List ℕ). z ++ written_order (ordered (drawing_of B))) (order_front B byte whole r.each_mark) ∙ simp append_assoc)))
 
 only_drawn : (B : List ℕ) (n p k : ℕ) (o : Option (List ℕ)) → Bytes B → verdict B ≡ accepted n p k o
     → (d : Protocol) × OfDraw d × (written d ≡ B) × (accepted n p k o ≡ acceptance d)
@@ -196,9 +177,7 @@ only_drawn B n p k o byte e =
       told_draw B byte whole r s f,
       of_draw B byte whole r s f,
       rewritten B byte whole r s f,
-      sym
-          (ap (λ (z : ℕ). accepted z (length (parties_of B)) (opened_count B) (ordered (drawing_of B))) (count B byte whole r s f)
-          ∙ (ap (λ (z : ℕ). accepted (name_count B) z (opened_count B) (ordered (drawing_of B))) (party_number B byte whole r s f) ∙ b.1)),
+      rw (count B byte whole r s f, party_number B byte whole r s f) (sym b.1),
     )
 
 pub accepts_only_drawn : (bytes : List ℕ) (v : Verdict) → Bytes bytes → v ≡ verdict bytes → AcceptsOnlyDrawn bytes v

@@ -35,7 +35,7 @@ module _ (f : ℕ → Option ℕ) where
     refused_first k n e l h q = go (f k) refl q
       where
         go : (o : Option ℕ) → o ≡ f k → Some e ≡ option_map why o → Some e ≡ option_map why (first_of f n)
-        go None z w = absurd (let z : ◌≡◌ {A = ℕ} 0 1 = cc in omega arith)
+        go None z w = cc
         go (Some x) z w = w ∙ ap (option_map why) (sym (first_found k n x l h (sym z)))
 
     pub passed_on : (k : ℕ) → first_of f k ≡ None → None ≡ option_map why (f k) → first_of f (k + 1) ≡ None

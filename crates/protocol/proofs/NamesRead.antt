@@ -1,5 +1,5 @@
 -- The names of a written protocol, as they are read again. Assumes nothing.
-use Rattle.std.proofs.Common.{◌≡◌, ℕ, zero, suc, ◌+◌, ◌<◌, ◌≤◌, List, [], ◌++◌, length, get_or, take, drop, refl, ap, ◌∙◌, append_assoc, add-one, arith}
+use Rattle.std.proofs.Common.{◌≡◌, ℕ, zero, suc, ◌+◌, ◌<◌, ◌≤◌, List, [], ◌++◌, length, get_or, drop, refl, ◌∙◌, append_assoc, add-one, arith}
 use Rattle.std.proofs.lemmas.List.{drop_more}
 use Rattle.entries.specs.Rows.{packed, packed_rows}
 use Rattle.protocol.specs.Layout.{name_at, name_of}
@@ -10,7 +10,7 @@ module _ (B : List ℕ) (names : List (List ℕ)) (post : List ℕ) (start : dro
   open_up : (k : ℕ) → k < length names → drop (name_at B k) B ≡ packed_rows (drop k names) ++ post
       → drop (name_at B k) B ≡ packed (get_or names k []) ++ (packed_rows (drop (k + 1) names) ++ post)
   open_up k h t =
-      t ∙ (ap (λ (z : List (List ℕ)). packed_rows z ++ post) (drop_more names k [] h) ∙ append_assoc (packed (get_or names k [])) (packed_rows (drop (k + 1) names)) post)
+      t ∙ rw (drop_more names k [] h) (append_assoc (packed (get_or names k [])) (packed_rows (drop (k + 1) names)) post)
 
   pub name_tail : (k : ℕ) → k ≤ length names → drop (name_at B k) B ≡ packed_rows (drop k names) ++ post
   unfolding name_at
@@ -20,9 +20,7 @@ module _ (B : List ℕ) (names : List (List ℕ)) (post : List ℕ) (start : dro
       let t : drop (name_at B k) B ≡ packed x ++ (packed_rows (drop (k + 1) names) ++ post) = open_up k (omega arith) (name_tail k (omega arith)) in
       let f : get_or B (name_at B k) 0 ≡ length x = tail_first B (name_at B k) _ t in
       let s : name_at B k + 1 + get_or B (name_at B k) 0 ≡ name_at B k + (1 + length x) = omega arith in
-      ap (λ (i : ℕ). drop i B) s
-      ∙ (tail_on B (name_at B k) (packed x) (packed_rows (drop (k + 1) names) ++ post) (1 + length x) t (omega arith)
-      ∙ ap (λ (i : ℕ). packed_rows (drop i names) ++ post) (add-one k))
+      rw (s, ← add-one k) (tail_on B (name_at B k) (packed x) (packed_rows (drop (k + 1) names) ++ post) (1 + length x) t (omega arith))
 
   module _ (k : ℕ) (h : k < length names) where
     here : drop (name_at B k) B ≡ packed (get_or names k []) ++ (packed_rows (drop (k + 1) names) ++ post)
@@ -33,5 +31,5 @@ module _ (B : List ℕ) (names : List (List ℕ)) (post : List ℕ) (start : dro
 
     pub name_is : name_of B k ≡ get_or names k []
     name_is =
-        ap (λ (n : ℕ). take n (drop (name_at B k + 1) B)) name_length
-        ∙ tail_part B (name_at B k + 1) (get_or names k []) (packed_rows (drop (k + 1) names) ++ post) (length (get_or names k [])) (tail_drop B (name_at B k) _ here 1) refl
+        rw name_length
+        (tail_part B (name_at B k + 1) (get_or names k []) (packed_rows (drop (k + 1) names) ++ post) (length (get_or names k [])) (tail_drop B (name_at B k) _ here 1) refl)

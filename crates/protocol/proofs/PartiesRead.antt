@@ -1,5 +1,5 @@
 -- The parties of a written protocol, as they are read again. Assumes nothing.
-use Rattle.std.proofs.Common.{◌≡◌, ℕ, zero, suc, ◌+◌, ◌<◌, ◌≤◌, cond, eqb, List, ◌∷◌, ◌++◌, length, get_or, take, drop, IfSome, Some, None, Option, ap, ◌∙◌, append_assoc, add-one, arith}
+use Rattle.std.proofs.Common.{◌≡◌, ℕ, zero, suc, ◌+◌, ◌<◌, ◌≤◌, List, ◌∷◌, ◌++◌, length, get_or, drop, IfSome, Some, None, Option, refl, ◌∙◌, append_assoc, add-zero, add-one, arith}
 use Rattle.std.specs.List.{flat_map}
 use Rattle.std.proofs.lemmas.List.{drop_more}
 use Rattle.protocol.specs.Draws.{no_party}
@@ -29,30 +29,23 @@ module _ (B : List ℕ) (L at : ℕ) (seal ys : List ℕ) (l : length seal ≡ 3
 
   behind : (b : ℕ) (zs : List ℕ) → drop at B ≡ seal ++ (b ∷ zs) → drop (at + 33) B ≡ zs
   behind b zs e =
-      ap (λ (i : ℕ). drop i B) (let z : at + 33 ≡ at + 32 + 1 = omega arith in z) ∙ tail_drop B (at + 32) (b ∷ zs) (tail_on B at seal (b ∷ zs) 32 e l) 1
+      let z : at + 33 ≡ at + 32 + 1 = omega arith in rw z (tail_drop B (at + 32) (b ∷ zs) (tail_on B at seal (b ∷ zs) 32 e l) 1)
 
   pub stands : (o : Option (List ℕ)) → Long L o → drop at B ≡ seal ++ (written_opening o ++ ys) → Stands B L at (record { seal = seal; opening = o }) ys
   stands None h e =
       let t = told_by None e in
       record {
         told = t;
-        whole =
-            ap (λ (b : ℕ). record { seal = take 32 (drop at B); opening = cond (eqb b 1) (Some (take (32 + L) (drop (at + 33) B))) None }) t
-            ∙ ap (λ (z : List ℕ). record { seal = z; opening = None }) (tail_part B at seal (0 ∷ ys) 32 e l);
-        next =
-            ap (λ (b : ℕ). drop (at + 33 + opening_size b L) B) t
-            ∙ (ap (λ (i : ℕ). drop i B) (let z : at + 33 + 0 ≡ at + 33 = omega arith in z) ∙ behind 0 ys e);
+        whole = rw (t, tail_part B at seal (0 ∷ ys) 32 e l) refl;
+        next = rw (t, add-zero (at + 33)) (behind 0 ys e);
       }
   stands (Some x) h e =
       let t = told_by (Some x) e in
       let b = behind 1 (x ++ ys) e in
       record {
         told = t;
-        whole =
-            ap (λ (b : ℕ). record { seal = take 32 (drop at B); opening = cond (eqb b 1) (Some (take (32 + L) (drop (at + 33) B))) None }) t
-            ∙ (ap (λ (z : List ℕ). record { seal = z; opening = Some (take (32 + L) (drop (at + 33) B)) }) (tail_part B at seal (1 ∷ (x ++ ys)) 32 e l)
-            ∙ ap (λ (z : List ℕ). record { seal = seal; opening = Some z }) (tail_part B (at + 33) x ys (32 + L) b h));
-        next = ap (λ (b : ℕ). drop (at + 33 + opening_size b L) B) t ∙ tail_on B (at + 33) x ys (32 + L) b h;
+        whole = rw (t, tail_part B at seal (1 ∷ (x ++ ys)) 32 e l, tail_part B (at + 33) x ys (32 + L) b h) refl;
+        next = rw t (tail_on B (at + 33) x ys (32 + L) b h);
       }
 
 -- a party has a seal of 32 bytes and an opening of its length
@@ -68,15 +61,13 @@ module _ (B : List ℕ) (parties : List Party) (post : List ℕ) (start : drop (
       let p : Party = get_or parties k no_party in
       let rest : List ℕ = flat_map written_party (drop (k + 1) parties) in
       stands B (bits_length B) (party_at B k) p.seal (rest ++ post) (each k h).seal_long p.opening (each k h).long
-      (t
-      ∙ (ap (λ (z : List Party). flat_map written_party z ++ post) (drop_more parties k no_party h)
-      ∙ (append_assoc (written_party p) rest post ∙ append_assoc p.seal (written_opening p.opening) (rest ++ post))))
+      (t ∙ rw (drop_more parties k no_party h) (simp append_assoc))
 
   pub party_tail : (k : ℕ) → k ≤ length parties → drop (party_at B k) B ≡ flat_map written_party (drop k parties) ++ post
   unfolding party_at
   party_tail zero h = start
   party_tail (suc k) h =
-      (read k (omega arith) (party_tail k (omega arith))).next ∙ ap (λ (i : ℕ). flat_map written_party (drop i parties) ++ post) (add-one k)
+      rw (← add-one k) (read k (omega arith) (party_tail k (omega arith))).next
 
   module _ (k : ℕ) (h : k < length parties) where
     pub party_told : get_or B (party_at B k + 32) 0 ≡ mark (get_or parties k no_party).opening

@@ -1,5 +1,5 @@
 -- Bytes of the right shape are written from what is read of them. Assumes nothing.
-use Rattle.std.proofs.Common.{◌≡◌, ℕ, zero, suc, ◌+◌, ◌-◌, ◌*◌, ◌<◌, ◌≤◌, cond, eqb, List, [], ◌∷◌, ◌++◌, map, length, get_or, take, drop, Some, None, sym, refl, ap, ◌∙◌, append_assoc, append-nil, add-one, arith, take-add}
+use Rattle.std.proofs.Common.{◌≡◌, ℕ, zero, suc, ◌+◌, ◌-◌, ◌*◌, ◌<◌, ◌≤◌, cond, eqb, List, [], ◌∷◌, ◌++◌, map, length, get_or, take, drop, Some, None, sym, refl, ap, ◌∙◌, append_assoc, append-nil, add-zero, add-one, arith, take-add}
 use Rattle.std.specs.List.{range_with_len, flat_map}
 use Rattle.std.proofs.lemmas.List.FromFn.{map-range_with_len_more}
 use Rattle.std.proofs.lemmas.List.{take_more, append_cancel_left}
@@ -31,9 +31,9 @@ module _ (B : List ℕ) (byte : Bytes B) (whole : size B ≡ length B) where
     name_front =
         let at : ℕ = name_at B k in
         let len : ℕ = get_or B at 0 in
-        take-add (at + 1) len B
-        ∙ (ap (λ (z : List ℕ). z ++ name_of B k) (take_more B at 0 (let m = middle_within in let w = name_within in omega arith))
-        ∙ (append_assoc (take at B) (len ∷ []) (name_of B k) ∙ ap (λ (z : ℕ). take at B ++ (z ∷ name_of B k)) (sym name_long)))
+        let m = middle_within in
+        let w = name_within in
+        take-add (at + 1) len B ∙ rw (take_more B at 0 (omega arith), append_assoc (take at B) (len ∷ []) (name_of B k)) (ap (λ (z : ℕ). take at B ++ (z ∷ name_of B k)) (sym name_long))
 
   pub names_front : (k : ℕ) → k ≤ name_count B → take (name_at B k) B ≡ take 2 B ++ packed_rows (map (name_of B) (range_with_len 0 k))
   unfolding name_at
@@ -56,10 +56,8 @@ module _ (B : List ℕ) (byte : Bytes B) (whole : size B ≡ length B) where
   unfolding bits_length party_count
   middle_front =
       let m = middle_within in
-      ap (λ (i : ℕ). take i B) (let z : length_at B + 3 ≡ length_at B + 2 + 1 = omega arith in z)
-      ∙ (take_more B (length_at B + 2) 0 (omega arith)
-      ∙ (ap (λ (z : List ℕ). z ++ (get_or B (length_at B + 2) 0 ∷ [])) (take-add (length_at B) 2 B ∙ ap (λ (z : List ℕ). take (length_at B) B ++ z) (word_read B byte (length_at B) (omega arith)))
-      ∙ append_assoc (take (length_at B) B) (word (word_at B (length_at B))) (get_or B (length_at B + 2) 0 ∷ [])))
+      let e : length_at B + 3 ≡ length_at B + 2 + 1 = omega arith in
+      rw (e, take_more B (length_at B + 2) 0 (omega arith), take-add (length_at B) 2 B, word_read B byte (length_at B) (omega arith)) (simp append_assoc)
 
   module _ (k : ℕ) (h : k < party_count B) where
     pub party_within : party_at B k + 33 + opening_size (get_or B (party_at B k + 32) 0) (bits_length B) ≤ order_at B
@@ -72,22 +70,18 @@ module _ (B : List ℕ) (byte : Bytes B) (whole : size B ≡ length B) where
         let at : ℕ = party_at B k in
         let w = order_within in
         let v = party_within in
-        ap (λ (i : ℕ). take i B) (let z : at + 33 ≡ at + 32 + 1 = omega arith in z)
-        ∙ (take_more B (at + 32) 0 (omega arith)
-        ∙ (ap (λ (z : List ℕ). z ++ (get_or B (at + 32) 0 ∷ [])) (take-add at 32 B) ∙ append_assoc (take at B) (take 32 (drop at B)) (get_or B (at + 32) 0 ∷ [])))
+        let e : at + 33 ≡ at + 32 + 1 = omega arith in
+        rw (e, take_more B (at + 32) 0 (omega arith), take-add at 32 B) (append_assoc (take at B) (take 32 (drop at B)) (get_or B (at + 32) 0 ∷ []))
 
     opened_front : (b L : ℕ) → get_or B (party_at B k + 32) 0 ≡ b → b ≤ 1
         → take (party_at B k + 33 + opening_size b L) B ≡ take (party_at B k) B ++ (take 32 (drop (party_at B k) B) ++ written_opening (cond (eqb b 1) (Some (take (32 + L) (drop (party_at B k + 33) B))) None))
     opened_front zero L e l =
-        ap (λ (i : ℕ). take i B) (let z : party_at B k + 33 + 0 ≡ party_at B k + 33 = omega arith in z)
-        ∙ (seal_front ∙ ap (λ (x : ℕ). take (party_at B k) B ++ (take 32 (drop (party_at B k) B) ++ (x ∷ []))) e)
+        rw add-zero (rw (← e) seal_front)
     opened_front (suc zero) L e l =
         let at : ℕ = party_at B k in
         let seal : List ℕ = take 32 (drop at B) in
         let x : List ℕ = take (32 + L) (drop (at + 33) B) in
-        take-add (at + 33) (32 + L) B
-        ∙ (ap (λ (z : List ℕ). z ++ x) (seal_front ∙ ap (λ (b : ℕ). take at B ++ (seal ++ (b ∷ []))) e)
-        ∙ (append_assoc (take at B) (seal ++ (1 ∷ [])) x ∙ ap (λ (z : List ℕ). take at B ++ z) (append_assoc seal (1 ∷ []) x)))
+        take-add (at + 33) (32 + L) B ∙ rw (seal_front, e) (simp append_assoc)
     opened_front (suc (suc b)) L e l = absurd (omega arith)
 
     party_front : get_or B (party_at B k + 32) 0 ≤ 1
@@ -109,20 +103,13 @@ module _ (B : List ℕ) (byte : Bytes B) (whole : size B ≡ length B) where
         ≡ word (name_count B) ++ (packed_rows (map (name_of B) (range_with_len 0 (name_count B))) ++ (word (bits_length B) ++ (party_count B ∷ flat_map written_party (parties_of B))))
     unfolding order_at length_at name_count
     order_front =
-        let names : List ℕ = packed_rows (map (name_of B) (range_with_len 0 (name_count B))) in
-        let parties : List ℕ = flat_map written_party (parties_of B) in
         let m = middle_within in
         let first : take 2 B ≡ word (name_count B) = word_read B byte 0 (omega arith) in
-        parties_front (party_count B) (omega arith)
-        ∙ (ap (λ (z : List ℕ). z ++ parties) (middle_front ∙ ap (λ (z : List ℕ). z ++ (word (bits_length B) ++ (party_count B ∷ []))) (names_front (name_count B) (omega arith) ∙ ap (λ (z : List ℕ). z ++ names) first))
-        ∙ regroup (word (name_count B)) names (word (bits_length B)) parties (party_count B))
-      where
-        regroup : (a b c e : List ℕ) (x : ℕ) → ((a ++ b) ++ (c ++ (x ∷ []))) ++ e ≡ a ++ (b ++ (c ++ (x ∷ e)))
-        regroup a b c e x = simp append_assoc
+        parties_front (party_count B) (omega arith) ∙ rw (middle_front, names_front (name_count B) (omega arith), first) (simp append_assoc)
 
   -- the numbers behind a place
   pub numbers_front : (at k : ℕ) → at + 2 * k ≤ length B → take (at + 2 * k) B ≡ take at B ++ flat_map word (numbers_at B at k)
-  numbers_front at zero h = ap (λ (i : ℕ). take i B) (let z : at + 2 * 0 ≡ at = omega arith in z) ∙ sym (append-nil (take at B))
+  numbers_front at zero h = let e : at + 2 * 0 ≡ at = omega arith in rw e (sym (append-nil (take at B)))
   numbers_front at (suc k) h =
       joined_on word (take at B) (take (at + 2 * k) B) (take (at + 2 * suc k) B) (numbers_at B at k) (numbers_at B at (suc k)) (word_at B (at + 2 * k))
       (numbers_front at k (omega arith))

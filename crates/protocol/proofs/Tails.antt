@@ -1,15 +1,15 @@
 -- What stands from a place on. Assumes nothing.
-use Rattle.std.proofs.Common.{◌≡◌, ℕ, ◌+◌, ◌-◌, ◌*◌, ◌/◌, ◌%◌, ◌<◌, List, ◌++◌, length, get_or, take, drop, sym, ap, ◌∙◌, add-zero, arith}
+use Rattle.std.proofs.Common.{◌≡◌, ℕ, ◌+◌, ◌-◌, ◌*◌, ◌/◌, ◌%◌, ◌<◌, List, ◌++◌, length, get_or, take, drop, sym, refl, ap, ◌∙◌, add-zero, arith}
 use Rattle.std.proofs.lemmas.List.{get_or-drop, drop-drop, drop_at, take_at, length-drop}
 use Rattle.protocol.specs.Layout.{word_at}
 use Rattle.protocol.specs.Protocol.{word}
 
 module _ (B : List ℕ) (at : ℕ) (ys : List ℕ) (e : drop at B ≡ ys) where
   pub tail_at : (i : ℕ) → get_or B (at + i) 0 ≡ get_or ys i 0
-  tail_at i = sym (get_or-drop at B i 0) ∙ ap (λ (z : List ℕ). get_or z i 0) e
+  tail_at i = rw (← get_or-drop at B i 0, e) refl
 
   pub tail_first : get_or B at 0 ≡ get_or ys 0 0
-  tail_first = ap (λ (i : ℕ). get_or B i 0) (sym (add-zero at)) ∙ tail_at 0
+  tail_first = rw add-zero at (tail_at 0)
 
   pub tail_drop : (n : ℕ) → drop (at + n) B ≡ drop n ys
   tail_drop n = sym (drop-drop n at B) ∙ ap (drop n) e
@@ -32,4 +32,4 @@ pub tail_word : (B : List ℕ) (at n : ℕ) (ys : List ℕ) → drop at B ≡ wo
 tail_word B at n ys e =
     let a : get_or B at 0 ≡ n % 256 = tail_first B at (word n ++ ys) e in
     let b : get_or B (at + 1) 0 ≡ n / 256 = tail_at B at (word n ++ ys) e 1 in
-    ap (λ (x : ℕ). x + 256 * get_or B (at + 1) 0) a ∙ (ap (λ (x : ℕ). n % 256 + 256 * x) b ∙ word_is n)
+    rw (a, b) (word_is n)

@@ -1,11 +1,15 @@
 -- A walk over the parties: which comes next, and what is found. Assumes nothing.
-use Rattle.std.proofs.Common.{◌≡◌, ℕ, ◌+◌, ◌-◌, ◌<◌, List, map, length, get_or, Some, None, Option, ap, ◌∙◌, arith}
+use Rattle.std.proofs.Common.{◌≡◌, ℕ, ◌+◌, ◌-◌, ◌<◌, List, map, length, Some, None, Option, ap, ◌∙◌, arith}
+use Rattle.std.specs.Iterator.{Yields, YieldsFirstBy}
 use Rattle.std.specs.List.{range_with_len}
 use Rattle.std.specs.Option.{option_map}
+use Rattle.std.proofs.lemmas.Iterator.Consumers.{YieldsList-from_first, YieldsList-turn, YieldsList-end}
 use Rattle.std.proofs.lemmas.List.FromFn.{length-map-range_with_len, get_or-map-range_with_len}
 use Rattle.refusals.specs.declared.Refusal.{Refusal}
 use Rattle.protocol.specs.Check.{first_of}
-use Rattle.protocol.specs.Walk.{parties_between}
+use Rattle.protocol.specs.Walk.{numbered, parties_between, parties_left}
+use Rattle.protocol.specs.declared.parties.Party.{Party}
+use Rattle.protocol.specs.declared.parties.Parties.{Parties}
 use Rattle.protocol.proofs.Firsts.{refused_first, passed_on}
 
 module _ (bytes : List ℕ) (n : ℕ) where
@@ -15,18 +19,24 @@ module _ (bytes : List ℕ) (n : ℕ) where
   pub turns : length (parties_between bytes 0 n) ≡ n
   turns = let e : length (map at (range_with_len 0 (n - 0))) ≡ n - 0 = length-map-range_with_len at 0 (n - 0) in omega (arith, e)
 
-  pub turn_is : (k : ℕ) (p : List ℕ × ℕ) → (k < length (parties_between bytes 0 n)) × (p ≡ get_or (parties_between bytes 0 n) k p) → (k < n) × (p ≡ (bytes, k))
-  turn_is k p h =
-      (omega (arith, h.0, turns), h.1 ∙ get_or-map-range_with_len at 0 (n - 0) k k p (omega (arith, h.0, turns)) (omega arith))
+  module _ (s : Parties) (all : parties_left s ≡ parties_between bytes 0 n) (seen : List Party) (t : Parties) (so_far : Yields (YieldsFirstBy numbered parties_left) s seen t)
+      (r : Option Party) (u : Parties) (step : YieldsFirstBy numbered parties_left t r u) where
+    pub turn_is : (p : Party) → r ≡ Some p → (length seen < n) × (numbered p ≡ (bytes, length seen))
+    turn_is p e =
+        let h = YieldsList-turn (YieldsList-from_first numbered parties_left _ all) seen t so_far r u p e step in
+        let k = length seen in
+        (omega (arith, h.0, turns), h.1 ∙ get_or-map-range_with_len at 0 (n - 0) k k (numbered p) (omega (arith, h.0, turns)) (omega arith))
+
+    pub turns_end : r ≡ None → length seen ≡ n
+    turns_end e = (YieldsList-end (YieldsList-from_first numbered parties_left _ all) seen t so_far r u e step).1 ∙ turns
 
   -- the first fault of a party, as the refusal that is answered
-  module _ (fault : List ℕ → ℕ → Option ℕ) (why : ℕ → Refusal) (k : ℕ) (p : List ℕ × ℕ)
-      (turn : (k < length (parties_between bytes 0 n)) × (p ≡ get_or (parties_between bytes 0 n) k p)) (none : first_of (fault bytes) k ≡ None) where
+  module _ (fault : List ℕ → ℕ → Option ℕ) (why : ℕ → Refusal) (k : ℕ) (p : List ℕ × ℕ) (turn : (k < n) × (p ≡ (bytes, k))) (none : first_of (fault bytes) k ≡ None) where
     here : option_map why (fault p.0 p.1) ≡ option_map why (fault bytes k)
-    here = ap (λ (q : List ℕ × ℕ). option_map why (fault q.0 q.1)) (turn_is k p turn).1
+    here = ap (λ (q : List ℕ × ℕ). option_map why (fault q.0 q.1)) turn.1
 
     pub turn_refused : (e : Refusal) → Some e ≡ option_map why (fault p.0 p.1) → Some e ≡ option_map why (first_of (fault bytes) n)
-    turn_refused e h = refused_first (fault bytes) why k n e (turn_is k p turn).0 none (h ∙ here)
+    turn_refused e h = refused_first (fault bytes) why k n e turn.0 none (h ∙ here)
 
     pub turn_passed : None ≡ option_map why (fault p.0 p.1) → first_of (fault bytes) (k + 1) ≡ None
     turn_passed h = passed_on (fault bytes) why k none (h ∙ here)

@@ -24,7 +24,7 @@ pub fn list_hash(protocol: &[u8]) -> [u8; 32]
 pub fn bits_length(protocol: &[u8]) -> u16
     ensures { result ≡ bits_length protocol.now }
 {
-    Layout::of(protocol).length
+    Layout::of(protocol).length()
 }
 
 // Whether the party of a number opened.

@@ -2,7 +2,7 @@
 ghost use Rattle.std.specs.Prelude.{◌≡◌, ◌+◌, ◌^◌, ◌<◌, ◌≤◌};
 ghost use Rattle.protocol.specs.Check.{shape_fault, hash_of};
 ghost use Rattle.protocol.specs.Laid.{LaidOut};
-ghost use Rattle.protocol.specs.Layout.{party_count, size};
+ghost use Rattle.protocol.specs.Layout.{bits_length, party_count, size};
 ghost use Rattle.protocol.specs.Walk.{parties_between, parties_left};
 ghost use Rattle.std.specs.Option.{option_map};
 ghost use Rattle.std.specs.Result.{result_err};
@@ -15,17 +15,19 @@ use parts::{byte_at, part};
 use refusals::Refusal;
 
 // The bytes of a protocol, and where its parts stand: the number of names; the place of how many bytes each party puts
-// in, and that number; the number of parties, which stands behind it; and the place of the word whether there is an
-// order.
+// in; the number of parties, which stands behind it; the first party, if there is one; and the place of the word whether
+// there is an order.
 #[derive(Clone, Copy)]
 pub(crate) struct Layout<'a> {
     pub bytes: &'a [u8],
     pub names: u16,
     pub length_at: usize,
-    pub length: u16,
     pub parties: u8,
+    pub first: Party<'a>,
     pub order_at: usize,
-    ghost laid_out: { LaidOut bytes.now names length_at length parties order_at },
+    ghost laid_out: { LaidOut bytes.now names length_at parties order_at },
+    ghost same_bytes: { first.bytes.now ≡ bytes.now },
+    ghost at_first: { first.number ≡ 0 },
 }
 
 impl<'a> Layout<'a> {
@@ -35,11 +37,10 @@ impl<'a> Layout<'a> {
     {
         let names = word_at(bytes, 0);
         let length_at = Name::of(bytes, names).at;
-        let length = word_at(bytes, length_at);
         let parties = byte_at(bytes, length_at + 2);
         let first = Party {
             bytes,
-            length,
+            length: word_at(bytes, length_at),
             number: 0,
             at: length_at + 3,
         };
@@ -47,32 +48,32 @@ impl<'a> Layout<'a> {
             bytes,
             names,
             length_at,
-            length,
             parties,
+            first,
             order_at: first.further(parties).at,
         }
     }
 
+    // How many bytes each party puts in.
+    pub(crate) fn length(&self) -> u16
+        ensures { result ≡ bits_length self.now.bytes.now }
+    {
+        self.first.length
+    }
+
     // The party of a number, as its place is counted.
-    #[tactic(auto, unfolding(crate::specs::Layout::party_at))]
     pub(crate) fn party(&self, number: u8) -> Party<'a>
         ensures bytes { result.bytes.now ≡ self.now.bytes.now }
         ensures number { result.number ≡ number }
     {
-        let first = Party {
-            bytes: self.bytes,
-            length: self.length,
-            number: 0,
-            at: self.length_at + 3,
-        };
-        first.further(number)
+        self.first.further(number)
     }
 
     pub(crate) fn each_party(&self) -> Parties<'a>
         ensures { parties_left result ≡ parties_between self.now.bytes.now 0 (party_count self.now.bytes.now) }
     {
         Parties {
-            first: self.party(0),
+            first: self.first,
             end: self.parties,
         }
     }

@@ -65,7 +65,8 @@ pub(crate) fn check_ranges(layout: &Layout) -> Result<(), Refusal>
         return Err(Refusal::OutOfRange(0));
     }
     check_names(layout)?;
-    if layout.length < LEAST_BITS || layout.length > MOST_BITS {
+    let length = layout.length();
+    if length < LEAST_BITS || length > MOST_BITS {
         return Err(Refusal::OutOfRange(layout.length_at));
     }
     if layout.parties == 0 {

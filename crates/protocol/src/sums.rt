@@ -35,7 +35,7 @@ fn add_bits(sum: &mut [u8], layout: &Layout)
 pub(crate) fn sum_of_bits(heap: Global, layout: &Layout) -> Result<Vec<u8>, AllocError>
     ensures { IfOk result (λ v. v.items ≡ sum_of (bits_length layout.now.bytes.now) (map (drop 32) (openings (parties_of layout.now.bytes.now)))) }
 {
-    let mut sum = vec![in heap; 0; layout.length as usize]?;
+    let mut sum = vec![in heap; 0; layout.length() as usize]?;
     add_bits(&mut sum, layout);
     Ok(sum)
 }

@@ -32,6 +32,7 @@ impl Accepted {
 }
 
 // The protocol is refused, or there was no memory to check it.
+#[derive(Clone, Copy, Debug, PartialEq, Eq)]
 pub enum CheckError {
     Refused(Refusal),
     NoMemory(AllocError),

@@ -1,31 +1,22 @@
-use Rattle.std.proofs.Common.{ℕ, ◌+◌, get_or, List, Some, None, sym, ap, ◌∙◌, arith}
-use Rattle.std.specs.Option.{option_map}
+use Rattle.std.proofs.Common.{◌≡◌, true, false, sym, ◌∙◌, arith}
 use Rattle.std.specs.Ordering.{is_lt}
-use Rattle.std.proofs.lemmas.Bool.{cond-true, cond-false}
-use Rattle.refusals.specs.declared.Refusal.TheVariants.{OutOfRange}
+use Rattle.std.proofs.lemmas.Bool.Decides.{nat_tests}
 use Rattle.entries.specs.Rows.{row_order}
-use Rattle.protocol.specs.Layout.{name_at}
+use Rattle.protocol.specs.Layout.{name_of}
 use Rattle.protocol.proofs.Faults.{less_is}
-use Rattle.protocol.proofs.Passes.{inside, cond_pass}
 use Rattle.protocol.proofs.ranges.check_name.Goals as goal
 
 pub returns-then-lt : goal.returns-then-lt
 returns-then-lt c =
-    let B = c.args.name.now.bytes.now in
-    let at = name_at B c.args.name.now.number in
-    let before = c.args.before.now in
-    let above = sym (c.lt.ensures ∙ (less_is before c.text.result.now ∙ ap (λ (z : List ℕ). is_lt (row_order before z)) c.text.ensures)) ∙ c.if-lt.true in
-    sym
-    (ap (option_map (λ at. OutOfRange at))
-    (cond_pass _ at _ (inside 1 64 (get_or B at 0) (omega arith) (omega arith)) (cond-true _ None (Some (at + 1)) above)))
+    let e = less_is c.args.before.now c.text.result.now in
+    let above : is_lt (row_order c.args.before.now (name_of c.args.name.now.bytes.now c.args.name.now.number)) ≡ true =
+    rw (sym c.text.ensures) (sym (c.lt.ensures ∙ e) ∙ c.if-lt.true) in
+    grind (arith, nat_tests)
 
 pub returns : goal.returns
 returns c =
-    let B = c.args.name.now.bytes.now in
-    let at = name_at B c.args.name.now.number in
-    let before = c.args.before.now in
-    let below = sym (c.lt.ensures ∙ (less_is before c.text.result.now ∙ ap (λ (z : List ℕ). is_lt (row_order before z)) c.text.ensures)) ∙ c.if-lt.false in
-    ap (λ (i : ℕ). Some (OutOfRange (i + 1))) c.args.name.now.placed
-    ∙ sym
-    (ap (option_map (λ at. OutOfRange at))
-    (cond-false _ (Some at) _ (inside 1 64 (get_or B at 0) (omega arith) (omega arith)) ∙ cond-false _ None (Some (at + 1)) below))
+    let e = less_is c.args.before.now c.text.result.now in
+    let below : is_lt (row_order c.args.before.now (name_of c.args.name.now.bytes.now c.args.name.now.number)) ≡ false =
+    rw (sym c.text.ensures) (sym (c.lt.ensures ∙ e) ∙ c.if-lt.false) in
+    let at = c.args.name.now.placed in
+    grind (arith, nat_tests)
