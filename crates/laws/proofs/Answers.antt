@@ -3,7 +3,7 @@ use Rattle.std.proofs.Common.{◌≡◌, ℕ, zero, suc, ◌<◌, Bool, true, fa
 
 -- where a test that refuses came before an answer, it did not refuse
 pub passed : {A E : Type 0} (b : Bool) (why : E) (r : Result A E) (a : A) → cond b (Err why) r ≡ Ok a → (b ≡ false) × (r ≡ Ok a)
-passed true why r a e = absurd (let z : ◌≡◌ {A = ℕ} 0 1 = cc in omega arith)
+passed true why r a e = absurd cc
 passed false why r a e = (refl, e)
 
 pub ok_is : {A E : Type 0} (a b : A) → ◌≡◌ {A = Result A E} (Ok a) (Ok b) → a ≡ b

@@ -1,25 +1,25 @@
 -- Memory holds bytes where the file does. Assumes nothing.
-use Rattle.std.proofs.Common.{◌≡◌, ℕ, zero, suc, ◌+◌, ◌<◌, ◌≤◌, Bool, true, false, cond, ◌||◌, eqb, ltb, leb, List, [], ◌∷◌, ◌++◌, length, get_or, take, drop, replicate, Some, None, Ok, Err, Option, Result, sym, refl, subst, ⊎_elim, arith}
+use Rattle.std.proofs.Common.{◌≡◌, ℕ, zero, suc, ◌+◌, ◌<◌, ◌≤◌, Bool, true, false, cond, ◌||◌, eqb, ltb, leb, List, [], ◌∷◌, ◌++◌, length, get_or, take, drop, replicate, Ok, Err, Result, sym, subst, ⊎_elim, arith}
 use lib.Seq.{paste}
 use Rattle.std.proofs.lemmas.List.{get_or-drop}
 use Rattle.std.proofs.lemmas.Bool.{cases_lt, lt-ltb, or_right}
 use Rattle.refusals.specs.declared.Missing.TheVariants.{Seal}
 use Rattle.refusals.specs.declared.Refusal.{Refusal}
-use Rattle.refusals.specs.declared.Refusal.TheVariants.{NameLength, OpeningLength, Nothing}
+use Rattle.refusals.specs.declared.Refusal.TheVariants.{NameLength, Nothing}
 use Rattle.protocol.specs.Draws.{Bytes}
 use Rattle.entries.specs.Rows.{packed, longest_name}
 use Rattle.entries.specs.Place.{place_for}
-use Rattle.entries.specs.Entry.{slot_for, entered_at, entered_into}
-use Rattle.seals.specs.Steps.{seal_fault, sealed_at, opening_fault, opened_at}
+use Rattle.entries.specs.Entry.{entered_at}
 use Rattle.ceremony.specs.Model.{Held, Listed, Sealed, Ended}
-use Rattle.ceremony.specs.Steps.{entry_step, listed_by, length_given, listing_closed, list_close, seal_step, sealed_by, seals_close, opening_step, opened_by, may_draw, closed_with, final_close}
-use Rattle.ceremony.specs.Draws.{State, listing, sealing, opening, ended, stepped, closed, step}
+use Rattle.ceremony.specs.Steps.{entry_step, listed_by, length_given, listing_closed, seal_step, opening_step, may_draw, closed_with}
+use Rattle.ceremony.specs.Draws.{State, listing, sealing, opening, ended, stepped, step}
 use Rattle.step_file.specs.Reading.{end, cut, length_of}
 use Rattle.step_file.specs.Reading as reading
 use Rattle.step_file.specs.File.{more_steps, steps_of, file_steps}
 use Rattle.runs.specs.Runs.{after_steps}
 use Rattle.runs.specs.Reports.{fresh, run_of}
 use Rattle.runs.specs.Rooms.{room_for}
+use Rattle.laws.proofs.Turns.{each_step, entry_cases, seal_cases, opening_cases}
 use Rattle.laws.proofs.Answers.{passed, ok_is}
 
 -- rows of bytes put together and taken apart
@@ -60,42 +60,20 @@ held_of (ended e) = e.held
 abbrev pub Typed : State → Type 0
 Typed s = Bytes (held_of s).slots × Bytes (held_of s).seals
 
-by_test : (b : Bool) (p q : State × Option Refusal) → Typed p.0 → Typed q.0 → Typed (cond b p q).0
-by_test true p q f g = f
-by_test false p q f g = g
-
-closing : {T : Type 0} (s : State) (next : T → State) (r : Result T Refusal) → Typed s → ((t : T) → r ≡ Ok t → Typed (next t)) → Typed (closed s next r).0
-closing s next (Ok t) h f = f t refl
-closing s next (Err w) h f = h
-
 entry : (s : Listed) (x : List ℕ) → Typed (listing s) → Bytes x → length x < 256 → Typed (stepped listing (entry_step s x)).0
-entry s x h b l = go (place_for s.held.slots s.held.index s.count x)
-  where
-    into : (at : ℕ) (r : Option ℕ) → Typed (stepped listing (listed_by s (entered_into s.held.slots s.held.index s.count x at r))).0
-    into at None = h
-    into at (Some slot) = (bytes_paste s.held.slots slot (packed x) (1 + length x) h.0 (bytes_cons (length x) x l b), h.1)
-
-    go : (p : Result ℕ Refusal) → Typed (stepped listing (listed_by s (entered_at s.held.slots s.held.index s.count x p))).0
-    go (Err w) = h
-    go (Ok at) = into at (slot_for (length s.held.slots) (length s.held.index) s.count)
+entry s x h b l =
+    entry_cases s x (λ r. Typed (stepped listing r).0) (λ why. h)
+    (λ at slot. (bytes_paste s.held.slots slot (packed x) (1 + length x) h.0 (bytes_cons (length x) x l b), h.1))
 
 seal : (s : Sealed) (x : List ℕ) → Typed (sealing s) → Bytes x → Typed (stepped sealing (seal_step s x)).0
-seal s x h b = go (seal_fault s.held.seals s.list.length s.parties x)
-  where
-    go : (r : Result ℕ Refusal) → Typed (stepped sealing (sealed_by s (sealed_at s.held.seals s.parties x r))).0
-    go (Err w) = h
-    go (Ok at) = (h.0, bytes_paste s.held.seals at (x ++ 0 ∷ []) 33 h.1 (bytes_append x (0 ∷ []) b (bytes_cons 0 [] (omega arith) (λ i. omega arith))))
+seal s x h b =
+    seal_cases s x (λ r. Typed (stepped sealing r).0) (λ why. h)
+    (λ at. (h.0, bytes_paste s.held.seals at (x ++ 0 ∷ []) 33 h.1 (bytes_append x (0 ∷ []) b (bytes_cons 0 [] (omega arith) (λ i. omega arith)))))
 
 opens : (s : Sealed) (x : List ℕ) → Typed (opening s) → Bytes x → Typed (stepped opening (opening_step s x)).0
-opens s x h b = go (eqb (length x) 0)
-  where
-    taken : (r : Result ℕ Refusal) → Typed (stepped opening (opened_by s (drop 1 x) (opened_at s.held.seals (drop 1 x) r))).0
-    taken (Err w) = h
-    taken (Ok at) = (h.0, bytes_paste s.held.seals at (1 ∷ drop 1 x) (1 + length (drop 1 x)) h.1 (bytes_cons 1 (drop 1 x) (omega arith) (bytes_drop 1 x b)))
-
-    go : (b : Bool) → Typed (stepped opening (cond b (s, Err (OpeningLength 0)) (opened_by s (drop 1 x) (opened_at s.held.seals (drop 1 x) (opening_fault s.held.seals s.list.length s.parties s.list.hash (get_or x 0 0) (drop 1 x)))))).0
-    go true = h
-    go false = taken (opening_fault s.held.seals s.list.length s.parties s.list.hash (get_or x 0 0) (drop 1 x))
+opens s x h b =
+    opening_cases s x (λ r. Typed (stepped opening r).0) (λ why. h)
+    (λ at. (h.0, bytes_paste s.held.seals at (1 ∷ drop 1 x) (1 + length (drop 1 x)) h.1 (bytes_cons 1 (drop 1 x) (omega arith) (bytes_drop 1 x b))))
 
 -- an entry that is too long for its length to be a byte is refused, and changes nothing
 long_entry : (s : Listed) (x : List ℕ) → Typed (listing s) → Bytes x → Typed (stepped listing (entry_step s x)).0
@@ -108,26 +86,26 @@ long_entry s x h b =
     subst (λ (p : Result ℕ Refusal). Typed (stepped listing (listed_by s (entered_at s.held.slots s.held.index s.count x p))).0) (sym e) h)
     (cases_lt (length x) 256)
 
+list_typed : (s : Listed) (r : Result ℕ Refusal) (t : Sealed) → Typed (listing s) → listing_closed s r ≡ Ok t → Typed (sealing t)
+list_typed s (Ok n) t h e = subst (λ (q : Sealed). Typed (sealing q)) (ok_is _ _ e) h
+list_typed s (Err w) t h e = absurd cc
+
+end_typed : (s : Sealed) (r : Result (Unit {0}) Refusal) (t : Ended) → Typed (opening s) → closed_with s r ≡ Ok t → Typed (ended t)
+end_typed s (Ok u) t h e = subst (λ (q : Ended). Typed (ended q)) (ok_is _ _ e) h
+end_typed s (Err w) t h e = absurd cc
+
 pub step_typed : (s : State) (kind : ℕ) (x : List ℕ) → Typed s → Bytes x → Typed (step s kind x).0
-step_typed (listing s) kind x h b =
-    by_test (eqb kind 1) _ _ (long_entry s x h b)
-    (by_test (eqb kind 2) _ _ (closing (listing s) sealing (list_close s x) h (λ t e. list_typed (length_given s x) t e)) h)
-  where
-    list_typed : (r : Result ℕ Refusal) (t : Sealed) → listing_closed s r ≡ Ok t → Typed (sealing t)
-    list_typed (Ok n) t e = subst (λ (q : Sealed). Typed (sealing q)) (ok_is _ _ e) h
-    list_typed (Err w) t e = absurd (let z : ◌≡◌ {A = ℕ} 0 1 = cc in omega arith)
-step_typed (sealing s) kind x h b =
-    by_test (eqb kind 3) _ _ (seal s x h b)
-    (by_test (eqb kind 4) _ _
-    (closing (sealing s) opening (seals_close s) h (λ t e. subst (λ (q : Sealed). Typed (opening q)) (ok_is _ _ (passed (eqb s.parties 0) (Nothing Seal) (Ok s) t e).1) h)) h)
-step_typed (opening s) kind x h b =
-    by_test (eqb kind 5) _ _ (opens s x h b)
-    (by_test (eqb kind 6) _ _ (closing (opening s) ended (final_close s) h (λ t e. end_typed (may_draw s) t e)) h)
-  where
-    end_typed : (r : Result (Unit {0}) Refusal) (t : Ended) → closed_with s r ≡ Ok t → Typed (ended t)
-    end_typed (Ok u) t e = subst (λ (q : Ended). Typed (ended q)) (ok_is _ _ e) h
-    end_typed (Err w) t e = absurd (let z : ◌≡◌ {A = ℕ} 0 1 = cc in omega arith)
-step_typed (ended e) kind x h b = h
+step_typed s kind x =
+    each_step x (λ s r. Typed s → Bytes x → Typed r.0)
+    (record {
+      refused = λ s why h b. h;
+      entry = λ s. long_entry s x;
+      list_closed = λ s t e h b. list_typed s (length_given s x) t h e;
+      seal = λ s. seal s x;
+      seals_closed = λ s t e h b. subst (λ (q : Sealed). Typed (opening q)) (ok_is _ _ (passed (eqb s.parties 0) (Nothing Seal) (Ok s) t e).1) h;
+      opens = λ s. opens s x;
+      ends = λ s e k h b. end_typed s (may_draw s) e h k;
+    }) s kind
 
 -- the bytes of each step of a file are bytes
 abbrev AllBytes : List (ℕ × List ℕ) → Type 0

@@ -67,4 +67,4 @@ module _ (s : Sealed) (i : InOpening s) where
       go (Ok u) p q =
           let a = passed (eqb (opened_count s.held.seals s.list.length s.parties) 0) (Nothing Opening) _ u p in
           subst AtEnd (ok_is _ _ q) (at_end (positive _ (eqb-false _ 0 a.0)))
-      go (Err why) p q = absurd (let z : ◌≡◌ {A = ℕ} 0 1 = cc in omega arith)
+      go (Err why) p q = absurd cc

@@ -1,3 +1,4 @@
+pub mod Turns
 pub mod Refusals
 pub mod Phases
 pub mod Answers

@@ -103,4 +103,4 @@ list_close_sound s x t i e = go (length_given s x) refl e
   where
     go : (r : Result ℕ Refusal) → length_given s x ≡ r → listing_closed s r ≡ Ok t → InSealing t
     go (Ok n) h e = closed_sound s x n t i (length_passed s x n h) e
-    go (Err why) h e = absurd (let z : ◌≡◌ {A = ℕ} 0 1 = cc in omega arith)
+    go (Err why) h e = absurd cc

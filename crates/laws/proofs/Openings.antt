@@ -62,4 +62,4 @@ module _ (s : Sealed) (party : ℕ) (x : List ℕ) (i : InOpening s) where
   pub opening_sound : (r : Result (Unit {0}) Refusal) → (opened s.held.seals s.list.length s.parties s.list.hash party x).answer ≡ r → why r ≡ None
       → InOpening (record { held = with_seals s.held (opened s.held.seals s.list.length s.parties s.list.hash party x).seals (sum_after r s.held.bits (drop 32 x)); list = s.list; parties = s.parties })
   opening_sound (Ok u) e h = after_opening e
-  opening_sound (Err w) e h = absurd (let z : ◌≡◌ {A = ℕ} 0 1 = cc in omega arith)
+  opening_sound (Err w) e h = absurd cc

@@ -1,12 +1,12 @@
 -- Phases come in their order, and seals and openings are taken each in its own. Assumes nothing.
-use Rattle.std.proofs.Common.{◌≡◌, ℕ, zero, suc, ◌<◌, ◌≤◌, Bool, true, false, cond, eqb, List, [], ◌∷◌, length, get_or, Some, None, Ok, Err, Option, Result, refl, subst, arith}
+use Rattle.std.proofs.Common.{◌≡◌, ℕ, zero, suc, ◌<◌, ◌≤◌, List, [], ◌∷◌, length, get_or, Some, None, Option, refl, subst, arith}
 use Rattle.refusals.specs.declared.Refusal.{Refusal}
-use Rattle.ceremony.specs.Steps.{list_close, seals_close, final_close}
-use Rattle.ceremony.specs.Draws.{State, listing, sealing, opening, ended, closed, step}
+use Rattle.ceremony.specs.Draws.{State, listing, sealing, opening, ended, step}
 use Rattle.step_file.specs.File.{file_steps}
 use Rattle.runs.specs.Reports.{fresh}
 use Rattle.laws.specs.Taken.{if_taken, taken_kinds}
 use Rattle.laws.specs.Laws.{SealedFirst}
+use Rattle.laws.proofs.Turns.{each_step}
 
 -- the phases by number
 abbrev pub phase : State → ℕ
@@ -15,36 +15,32 @@ phase (sealing s) = 1
 phase (opening s) = 2
 phase (ended s) = 3
 
-by_test : (n : ℕ) (b : Bool) (p q : State × Option Refusal) → n ≤ phase p.0 → n ≤ phase q.0 → n ≤ phase (cond b p q).0
-by_test n true p q a b = a
-by_test n false p q a b = b
-
-closing : {T : Type 0} (n : ℕ) (s : State) (next : T → State) (r : Result T Refusal) → n ≤ phase s → ((t : T) → n ≤ phase (next t)) → n ≤ phase (closed s next r).0
-closing n s next (Ok t) a b = b t
-closing n s next (Err w) a b = a
-
 -- a step goes to no earlier phase
 pub onward : (s : State) (kind : ℕ) (x : List ℕ) → phase s ≤ phase (step s kind x).0
-onward (listing s) kind x =
-    by_test 0 (eqb kind 1) _ _ (omega arith) (by_test 0 (eqb kind 2) _ _ (closing 0 (listing s) sealing (list_close s x) (omega arith) (λ t. omega arith)) (omega arith))
-onward (sealing s) kind x =
-    by_test 1 (eqb kind 3) _ _ (omega arith) (by_test 1 (eqb kind 4) _ _ (closing 1 (sealing s) opening (seals_close s) (omega arith) (λ t. omega arith)) (omega arith))
-onward (opening s) kind x =
-    by_test 2 (eqb kind 5) _ _ (omega arith) (by_test 2 (eqb kind 6) _ _ (closing 2 (opening s) ended (final_close s) (omega arith) (λ t. omega arith)) (omega arith))
-onward (ended s) kind x = omega arith
+onward s kind x =
+    each_step x (λ s r. phase s ≤ phase r.0)
+    (record {
+      refused = λ s why. omega arith;
+      entry = λ s. omega arith;
+      list_closed = λ s t e. omega arith;
+      seal = λ s. omega arith;
+      seals_closed = λ s t e. omega arith;
+      opens = λ s. omega arith;
+      ends = λ s e h. omega arith;
+    }) s kind
 
 -- a seal is taken in the second phase alone, and an opening in the third
 at_three : (s : State) (x : List ℕ) → (step s 3 x).1 ≡ None → phase s ≡ 1
-at_three (listing s) x h = absurd (let z : ◌≡◌ {A = ℕ} 0 1 = cc in omega arith)
+at_three (listing s) x h = absurd cc
 at_three (sealing s) x h = refl
-at_three (opening s) x h = absurd (let z : ◌≡◌ {A = ℕ} 0 1 = cc in omega arith)
-at_three (ended s) x h = absurd (let z : ◌≡◌ {A = ℕ} 0 1 = cc in omega arith)
+at_three (opening s) x h = absurd cc
+at_three (ended s) x h = absurd cc
 
 at_five : (s : State) (x : List ℕ) → (step s 5 x).1 ≡ None → phase s ≡ 2
-at_five (listing s) x h = absurd (let z : ◌≡◌ {A = ℕ} 0 1 = cc in omega arith)
-at_five (sealing s) x h = absurd (let z : ◌≡◌ {A = ℕ} 0 1 = cc in omega arith)
+at_five (listing s) x h = absurd cc
+at_five (sealing s) x h = absurd cc
 at_five (opening s) x h = refl
-at_five (ended s) x h = absurd (let z : ◌≡◌ {A = ℕ} 0 1 = cc in omega arith)
+at_five (ended s) x h = absurd cc
 
 pub seal_time : (s : State) (kind : ℕ) (x : List ℕ) → kind ≡ 3 → (step s kind x).1 ≡ None → phase s ≡ 1
 seal_time s kind x e h = at_three s x (subst (λ (k : ℕ). (step s k x).1 ≡ None) e h)

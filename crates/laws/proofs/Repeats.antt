@@ -1,5 +1,5 @@
 -- The protocol that a draw writes is accepted. Assumes nothing.
-use Rattle.std.proofs.Common.{◌≡◌, ℕ, Bool, true, false, List, refl, ap, ◌∙◌, arith}
+use Rattle.std.proofs.Common.{◌≡◌, ℕ, Bool, true, false, List, refl, ap, ◌∙◌}
 use Rattle.protocol.specs.Protocol.{written}
 use Rattle.protocol.specs.Check.{verdict}
 use Rattle.protocol.specs.Draws.{Bytes}
@@ -27,8 +27,8 @@ pub repeats : Repeats
 repeats file b = go _ (file_cut file) (run_of file) refl
   where
     go : (lines : List ℕ) (cut : Bool) (s : State) → run_of file ≡ s → (told_of lines cut s).ending ≡ Finished → Repeated (told_of lines cut s)
-    go lines true s h e = absurd (let z : ◌≡◌ {A = ℕ} 0 1 = cc in omega arith)
-    go lines false (listing s) h e = absurd (let z : ◌≡◌ {A = ℕ} 0 1 = cc in omega arith)
-    go lines false (sealing s) h e = absurd (let z : ◌≡◌ {A = ℕ} 0 1 = cc in omega arith)
-    go lines false (opening s) h e = absurd (let z : ◌≡◌ {A = ℕ} 0 1 = cc in omega arith)
+    go lines true s h e = absurd cc
+    go lines false (listing s) h e = absurd cc
+    go lines false (sealing s) h e = absurd cc
+    go lines false (opening s) h e = absurd cc
     go lines false (ended s) h e = repeated file b s h

@@ -67,7 +67,7 @@ module _ (s : Sealed) (x : List ℕ) (i : InSealing s) where
   pub seal_sound : (r : Result ℕ Refusal) → (sealed s.held.seals s.list.length s.parties x).answer ≡ r → why (done r) ≡ None
       → InSealing (record { held = with_seals s.held (sealed s.held.seals s.list.length s.parties x).seals s.held.bits; list = s.list; parties = number_or r s.parties })
   seal_sound (Ok n) e h = after_seal n e
-  seal_sound (Err w) e h = absurd (let z : ◌≡◌ {A = ℕ} 0 1 = cc in omega arith)
+  seal_sound (Err w) e h = absurd cc
 
 pub seals_close_sound : (s t : Sealed) → InSealing s → seals_close s ≡ Ok t → InOpening t
 seals_close_sound s t i e =

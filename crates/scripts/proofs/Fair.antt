@@ -36,8 +36,8 @@ same_tests false false f g = refl
 row_is : (xs ys : List ℕ) → same_row xs ys ≡ true → xs ≡ ys
 unfolding same_row
 row_is [] [] h = refl
-row_is [] (y ∷ ys) h = absurd (let z : ◌≡◌ {A = ℕ} 0 1 = cc in omega arith)
-row_is (x ∷ xs) [] h = absurd (let z : ◌≡◌ {A = ℕ} 0 1 = cc in omega arith)
+row_is [] (y ∷ ys) h = absurd cc
+row_is (x ∷ xs) [] h = absurd cc
 row_is (x ∷ xs) (y ∷ ys) h = let p = and_parts (eqb x y) (same_row xs ys) h in λ i. eqb-true x y p.0 i ∷ row_is xs ys p.1 i
 
 row_itself : (xs : List ℕ) → same_row xs xs ≡ true
@@ -87,15 +87,15 @@ module _ (s : Script) (r : Right s) where
       (λ h. (bytes_eq-Decides (text_of s (Some ns)) (text_of s (Some p))).1 (ap (λ (xs : List ℕ). text_of s (Some xs)) (sym (row_is p ns h))))
   order_test p a none e =
       same_tests _ _
-      (λ h. let q = told_text None (Some p) tt (arranged_fits (length s.names) p r.few_names a) h in absurd (let z : ◌≡◌ {A = ℕ} 0 1 = cc in omega arith))
-      (λ h. absurd (let z : ◌≡◌ {A = ℕ} 0 1 = cc in omega arith))
+      (λ h. let q = told_text None (Some p) tt (arranged_fits (length s.names) p r.few_names a) h in absurd cc)
+      (λ h. absurd cc)
 
   none_test : (o : Order) → drawn n s.len (rows_of s) ≡ o → bytes_eq (text_of s (shown o)) (text_of s None) ≡ is_none o
   unfolding is_none n
   none_test (some ns) e =
       same_tests _ _
-      (λ h. let q = told_text (Some ns) None (fits (some ns) e) tt h in absurd (let z : ◌≡◌ {A = ℕ} 0 1 = cc in omega arith))
-      (λ h. absurd (let z : ◌≡◌ {A = ℕ} 0 1 = cc in omega arith))
+      (λ h. let q = told_text (Some ns) None (fits (some ns) e) tt h in absurd cc)
+      (λ h. absurd cc)
   none_test none e = (bytes_eq-Decides (text_of s None) (text_of s None)).1 refl
 
   drawn_text : ordered (drawn_order n (sum_of s.len (rows_of s)) 0) ≡ shown (drawn n s.len (rows_of s))

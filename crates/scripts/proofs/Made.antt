@@ -49,7 +49,7 @@ module _ (d : Protocol) (o : OfDraw d) where
   -- the opening of a party that opened
   opening_of : (k : ℕ) → k < length ps → (op : Option (List ℕ)) → (get_or ps k no_party).opening ≡ op → is_some op ≡ true
       → Opening hash d.bits_length k (get_or ps k no_party).seal (unwrap_or op [])
-  opening_of k l None e h = absurd (let z : ◌≡◌ {A = ℕ} 0 1 = cc in omega arith)
+  opening_of k l None e h = absurd cc
   opening_of k l (Some x) e h =
       subst (λ (q : Option (List ℕ)). IfSome q (Opening hash d.bits_length k (get_or ps k no_party).seal)) e (o.each_party k l).opened
 

@@ -172,7 +172,7 @@ module _ (σ : Script) (r : Right σ) where
         comes = r.each_comes;
         once = r.comes_once;
         unopened = λ j l. i.unopened (get_or σ.comes j 0) (let h = r.each_comes j l in omega (arith, h, sealed_so.parties));
-        marked = λ j l. record { mark = i.unopened j (omega (arith, l, sealed_so.parties)); opening = λ e. absurd (let z : ◌≡◌ {A = ℕ} 0 1 = cc in omega arith) };
+        marked = λ j l. record { mark = i.unopened j (omega (arith, l, sealed_so.parties)); opening = λ e. absurd cc };
         sum = i.closed.sum ∙ ap (sum_of len) (no_rows memory len sealed_all.parties i.unopened);
         count = none_counted memory len sealed_all.parties i.unopened;
       }
