@@ -1,5 +1,5 @@
 -- Tests that a step has passed. Assumes nothing.
-use Rattle.std.proofs.Common.{◌≡◌, ℕ, zero, suc, ◌<◌, Bool, true, false, cond, Ok, Err, Result, refl, arith}
+use Rattle.std.proofs.Common.{◌≡◌, Bool, true, false, cond, Ok, Err, Result, refl}
 
 -- where a test that refuses came before an answer, it did not refuse
 pub passed : {A E : Type 0} (b : Bool) (why : E) (r : Result A E) (a : A) → cond b (Err why) r ≡ Ok a → (b ≡ false) × (r ≡ Ok a)
@@ -8,7 +8,3 @@ passed false why r a e = (refl, e)
 
 pub ok_is : {A E : Type 0} (a b : A) → ◌≡◌ {A = Result A E} (Ok a) (Ok b) → a ≡ b
 ok_is a b e = cc
-
-pub positive : (m : ℕ) → (m ≡ 0 → ⊥) → 0 < m
-positive zero h = absurd (h refl)
-positive (suc m) h = omega arith

@@ -13,7 +13,7 @@ use Rattle.ceremony.specs.Steps.{after_drawing, may_draw, closed_with, final_clo
 use Rattle.seals.specs.Records.{opened_count}
 use Rattle.ceremony.specs.Reports.{drawn_part}
 use Rattle.laws.specs.Sound.{InOpening, AtEnd}
-use Rattle.laws.proofs.Answers.{passed, ok_is, positive}
+use Rattle.laws.proofs.Answers.{passed, ok_is}
 
 module _ (n : ℕ) (bytes order : List ℕ) (l : n ≤ length order) where
   -- the first places of the slice hold the order that was drawn
@@ -66,5 +66,5 @@ module _ (s : Sealed) (i : InOpening s) where
       go : (r : Result (Unit {0}) Refusal) → may_draw s ≡ r → closed_with s r ≡ Ok e → AtEnd e
       go (Ok u) p q =
           let a = passed (eqb (opened_count s.held.seals s.list.length s.parties) 0) (Nothing Opening) _ u p in
-          subst AtEnd (ok_is _ _ q) (at_end (positive _ (eqb-false _ 0 a.0)))
+          subst AtEnd (ok_is _ _ q) (at_end (let n = eqb-false _ 0 a.0 in omega (arith, n)))
       go (Err why) p q = absurd cc

@@ -17,7 +17,7 @@ use Rattle.sum.specs.Sums.{sum_of, sum_from}
 use Rattle.ceremony.specs.Model.{Listed, Sealed}
 use Rattle.ceremony.specs.Steps.{closed_list, entry_step, two_bytes, length_given, listing_closed, list_close, shortest, longest}
 use Rattle.laws.specs.Sound.{list_of, InListing, InSealing}
-use Rattle.laws.proofs.Answers.{passed, ok_is, positive}
+use Rattle.laws.proofs.Answers.{passed, ok_is}
 
 same_count : (r : Result ℕ Refusal) (count : ℕ) → counted r count ≡ number_or r count
 same_count (Ok n) count = refl
@@ -64,7 +64,7 @@ length_passed s x n e =
       is = sym g;
       enough = omega (arith, g, h1);
       few = omega (arith, g, h2);
-      some = positive s.count h3;
+      some = omega (arith, h3);
       bits_room = omega (arith, g, h4);
       order_room = h5;
     }

@@ -16,7 +16,7 @@ use Rattle.ceremony.specs.Model.{Sealed}
 use Rattle.ceremony.specs.Steps.{with_seals, seals_close}
 use Rattle.ceremony.specs.Draws.{why}
 use Rattle.laws.specs.Sound.{InSealing, InOpening}
-use Rattle.laws.proofs.Answers.{passed, ok_is, positive}
+use Rattle.laws.proofs.Answers.{passed, ok_is}
 
 -- what is known of an opening stays with a record that stays
 pub still_given : (before after hash : List ℕ) (len k : ℕ) → Same before after len k
@@ -73,4 +73,4 @@ pub seals_close_sound : (s t : Sealed) → InSealing s → seals_close s ≡ Ok 
 seals_close_sound s t i e =
     let a = passed (eqb s.parties 0) (Nothing Seal) (Ok s) t e in
     let same : s ≡ t = ok_is _ _ a.1 in
-    subst InOpening same (record { closed = i.closed; some_parties = positive s.parties (eqb-false s.parties 0 a.0) })
+    subst InOpening same (record { closed = i.closed; some_parties = let n = eqb-false s.parties 0 a.0 in omega (arith, n) })

@@ -5,6 +5,7 @@
 ghost use Rattle.laws.specs.Laws.{RefusedUnchanged, SealedFirst, RunsSound, SumOfOpenings, Independence, RunProtocols, Repeats};
 
 // A refused step changes nothing.
+#[tactic(auto, using(crate::proofs::Refusals::refused_unchanged))]
 pub fn refused_unchanged_stands() -> u8
     ensures { RefusedUnchanged }
 {
@@ -12,6 +13,7 @@ pub fn refused_unchanged_stands() -> u8
 }
 
 // No seal is taken after an opening.
+#[tactic(auto, using(crate::proofs::Phases::sealed_first))]
 pub fn sealed_first_stands() -> u8
     ensures { SealedFirst }
 {
@@ -19,6 +21,7 @@ pub fn sealed_first_stands() -> u8
 }
 
 // Every run leaves a sound state.
+#[tactic(auto, using(crate::proofs::Runs::runs_sound))]
 pub fn runs_sound_stands() -> u8
     ensures { RunsSound }
 {
@@ -26,6 +29,7 @@ pub fn runs_sound_stands() -> u8
 }
 
 // The order is drawn from the sum of exactly the openings taken.
+#[tactic(auto, using(crate::proofs::Runs::sum_of_openings))]
 pub fn sum_of_openings_stands() -> u8
     ensures { SumOfOpenings }
 {
@@ -33,6 +37,7 @@ pub fn sum_of_openings_stands() -> u8
 }
 
 // The order depends on nothing but the number of names and the sum.
+#[tactic(auto, using(crate::proofs::Runs::independence))]
 pub fn independence_stands() -> u8
     ensures { Independence }
 {

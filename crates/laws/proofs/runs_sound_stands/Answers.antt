@@ -1,5 +1,0 @@
-use Rattle.laws.proofs.Runs.{runs_sound}
-use Rattle.laws.proofs.runs_sound_stands.Goals as goal
-
-pub returns : goal.returns
-returns c = runs_sound
