@@ -82,16 +82,10 @@ module _ (ps : List Party) where
       go : (b : Bool) → opened n ≡ b → (j < n → among j (opened_numbers ps n) ≡ opened j) → among j (opened_numbers ps n ++ cond b (n ∷ []) []) ≡ opened j
       go true e ih =
           ⊎_elim (λ (q : j ≡ n). among_last j n (opened_numbers ps n) q ∙ sym (ap opened q ∙ e))
-          (λ (q : j ≡ n → ⊥). among_other j n (opened_numbers ps n) q ∙ ih (below q)) (cases_eq j n)
-        where
-          below : (j ≡ n → ⊥) → j < n
-          below q = ⊎_elim (λ (h : j < n). h) (λ (h : n ≤ j). absurd (q (omega arith))) (cases_lt j n)
+          (λ (q : j ≡ n → ⊥). among_other j n (opened_numbers ps n) q ∙ ih (omega (arith, q, l))) (cases_eq j n)
       go false e ih =
           ap (among j) (append-nil (opened_numbers ps n))
-          ∙ ⊎_elim (λ (q : j ≡ n). among_none j n (omega arith) ∙ sym (ap opened q ∙ e)) (λ (q : j ≡ n → ⊥). ih (below q)) (cases_eq j n)
-        where
-          below : (j ≡ n → ⊥) → j < n
-          below q = ⊎_elim (λ (h : j < n). h) (λ (h : n ≤ j). absurd (q (omega arith))) (cases_lt j n)
+          ∙ ⊎_elim (λ (q : j ≡ n). among_none j n (omega arith) ∙ sym (ap opened q ∙ e)) (λ (q : j ≡ n → ⊥). ih (omega (arith, q, l))) (cases_eq j n)
 
   -- their openings, one after another
   openings_more : (n : ℕ) → n < length ps → openings (take (suc n) ps) ≡ openings (take n ps) ++ option_to_list (get_or ps n no_party).opening
