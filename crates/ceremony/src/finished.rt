@@ -56,7 +56,8 @@ fn left_out_lines(heap: Global, parties: &Parties) -> Result<String, AllocError>
 }
 
 impl<'a> Finished<'a> {
-    // The final close: the order is drawn from the sum.
+    // The final close: the order is drawn from the sum. What is held is taken apart for it, since the proofs cover no two
+    // loans behind one reference.
     pub(crate) fn draw(closed: Closed<'a>) -> Finished<'a>
         requires places { closed.list.count ≤ length closed.order.now }
         requires whole { closed.parties.length ≤ length closed.bits.now }

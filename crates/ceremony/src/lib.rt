@@ -1,8 +1,8 @@
-// A draw from its first entry to its order: a state for each phase, passed on by value.
+// A draw from its first entry to its order: a state for each phase.
 //
 // Entries are taken until the list is closed, seals until the seals are closed, openings until the final close, which
 // draws the order. A closing consumes its state and gives the next, or gives the same state back with the refusal. All
-// memory is lent by the caller and held together.
+// memory is lent by the caller.
 #![tactic(auto)]
 
 mod closed;

@@ -20,11 +20,10 @@ pub enum Draw<'a> {
     Finished(Finished<'a>),
 }
 
-fn in_listing<'a>(s: Listing<'a>, kind: Kind, bytes: &[u8]) -> (Draw<'a>, Result<(), Refusal>)
+fn in_listing<'a>(mut s: Listing<'a>, kind: Kind, bytes: &[u8]) -> (Draw<'a>, Result<(), Refusal>)
     ensures state { state result.0 ≡ (step (listing (as_listed s.entry)) (kind_number kind) bytes.now).0 }
     ensures answer { why result.1 ≡ (step (listing (as_listed s.entry)) (kind_number kind) bytes.now).1 }
 {
-    let mut s = s;
     match kind {
         Kind::Entry => {
             let answer = s.enter(bytes);
@@ -38,11 +37,10 @@ fn in_listing<'a>(s: Listing<'a>, kind: Kind, bytes: &[u8]) -> (Draw<'a>, Result
     }
 }
 
-fn in_sealing<'a>(s: Sealing<'a>, kind: Kind, bytes: &[u8]) -> (Draw<'a>, Result<(), Refusal>)
+fn in_sealing<'a>(mut s: Sealing<'a>, kind: Kind, bytes: &[u8]) -> (Draw<'a>, Result<(), Refusal>)
     ensures state { state result.0 ≡ (step (sealing (as_sealed s.entry)) (kind_number kind) bytes.now).0 }
     ensures answer { why result.1 ≡ (step (sealing (as_sealed s.entry)) (kind_number kind) bytes.now).1 }
 {
-    let mut s = s;
     match kind {
         Kind::Seal => {
             let answer = s.seal(bytes);
@@ -59,11 +57,10 @@ fn in_sealing<'a>(s: Sealing<'a>, kind: Kind, bytes: &[u8]) -> (Draw<'a>, Result
     }
 }
 
-fn in_opening<'a>(s: Opening<'a>, kind: Kind, bytes: &[u8]) -> (Draw<'a>, Result<(), Refusal>)
+fn in_opening<'a>(mut s: Opening<'a>, kind: Kind, bytes: &[u8]) -> (Draw<'a>, Result<(), Refusal>)
     ensures state { state result.0 ≡ (step (opening (as_opened s.entry)) (kind_number kind) bytes.now).0 }
     ensures answer { why result.1 ≡ (step (opening (as_opened s.entry)) (kind_number kind) bytes.now).1 }
 {
-    let mut s = s;
     match kind {
         Kind::Opening => {
             let answer = s.open(bytes);
