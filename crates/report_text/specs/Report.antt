@@ -88,9 +88,12 @@ abbrev pub place_in : List ℕ → List ℕ → List ℕ → Option ℕ
 place_in bytes x ns = option_map (λ k. k + 1) (position (λ n. bytes_eq (name_of bytes n) x) ns)
 
 -- the place of one name alone, or why there is none
+abbrev pub place_among : List ℕ → List ℕ → Option (List ℕ) → Result ℕ NoPlace
+place_among bytes x (Some ns) = ok_or (place_in bytes x ns) NotInList
+place_among bytes x None = Err NoOrder
+
 abbrev pub found : List ℕ → List ℕ → Verdict → Result ℕ NoPlace
-found bytes x (accepted names parties opened (Some ns)) = ok_or (place_in bytes x ns) NotInList
-found bytes x (accepted names parties opened None) = Err NoOrder
+found bytes x (accepted names parties opened order) = place_among bytes x order
 found bytes x (refused why) = Err (Refused why)
 
 abbrev pub place_for : List ℕ → List ℕ → Result ℕ NoPlace

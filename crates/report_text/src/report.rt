@@ -1,15 +1,15 @@
 // The whole report, and the place of one member alone.
-ghost use Rattle.std.specs.Prelude.{IfOk, vec_items, ◌≡◌};
+ghost use Rattle.std.specs.Prelude.{IfOk, ◌≡◌};
 ghost use Rattle.std.specs.Option.{option_map};
 ghost use Rattle.output.specs.Writes.{Writes};
 ghost use Rattle.protocol.specs.Check.{verdict};
-ghost use Rattle.report_text.specs.Report.{accepted_or_refused, no_place_line, order_lines, place_for, place_told, report};
+ghost use Rattle.report_text.specs.Report.{accepted_or_refused, no_place_line, order_lines, place_among, place_for, place_told, report};
 
 use crate::parties::{put_bits, put_counts, put_hash, put_parties};
 use crate::places::{find, put_line, put_places};
 use crate::refused::put_sentence;
 use output::Output;
-use protocol::{Accepted, CheckError, bits_used, check};
+use protocol::{CheckError, bits_used, check};
 use refusals::Refusal;
 use std::alloc::{AllocError, Global};
 
@@ -24,11 +24,11 @@ pub enum NoPlace {
     NotInList,
 }
 
-fn put_order(out: &mut Output, protocol: &[u8], order: &Option<Vec<u16>>)
-    ensures { Writes out.old out.new (order_lines protocol.now (option_map vec_items order.now)) }
+fn put_order(out: &mut Output, protocol: &[u8], order: Option<&[u16]>)
+    ensures { Writes out.old out.new (order_lines protocol.now (option_map (λ x. x.now) order.entry)) }
 {
     match order {
-        Some(order) => put_places(out, protocol, order.as_slice()),
+        Some(order) => put_places(out, protocol, order),
         None => out.put(b"no order\n"),
     }
 }
@@ -49,7 +49,7 @@ pub fn put_report(
             put_parties(out, protocol, accepted.parties);
             put_hash(out, protocol);
             put_bits(out, protocol, used);
-            put_order(out, protocol, &accepted.order);
+            put_order(out, protocol, accepted.order.as_deref());
             Ok(Ok(()))
         }
         Err(CheckError::Refused(why)) => {
@@ -69,16 +69,17 @@ fn place_for(
     ensures { IfOk result (λ r. r ≡ place_for protocol.now name.now) }
 {
     match check(heap, protocol) {
-        Ok(
-            Accepted {
-                order: Some(order),
-                ..
-            },
-        ) => Ok(find(protocol, order.as_slice(), name).ok_or(NoPlace::NotInList)),
-        Ok(Accepted { order: None, .. }) => Ok(Err(NoPlace::NoOrder)),
+        Ok(accepted) => Ok(place_among(protocol, accepted.order.as_deref(), name)),
         Err(CheckError::Refused(why)) => Ok(Err(NoPlace::Refused(why))),
         Err(CheckError::NoMemory(none)) => Err(none),
     }
+}
+
+fn place_among(protocol: &[u8], order: Option<&[u16]>, name: &[u8]) -> Result<usize, NoPlace>
+    ensures { result ≡ place_among protocol.now name.now (option_map (λ x. x.now) order.entry) }
+{
+    let order = order.ok_or(NoPlace::NoOrder)?;
+    find(protocol, order, name).ok_or(NoPlace::NotInList)
 }
 
 fn put_no_place(out: &mut Output, why: NoPlace)
