@@ -4,7 +4,7 @@
 
 use anyhow::{Context, bail, ensure};
 use ceremony::{Draw, Listing};
-use output::Output;
+use output::whole;
 use program::finish;
 use runs::Room;
 use seal_text::put_seal;
@@ -12,9 +12,6 @@ use std::process::ExitCode;
 use std::{env, fs};
 
 const USAGE: &str = "usage: seal STEPS PARTY OPENING";
-
-// The longest text has 155 bytes.
-const TEXT: usize = 256;
 
 fn read(rt: &HostRuntime, path: &str) -> anyhow::Result<Vec<u8>> {
     fs::read(rt, path).context(format_args!("cannot read {path}"))
@@ -30,15 +27,10 @@ fn tell(rt: &HostRuntime, file: &[u8], party: u8, opening: &[u8]) -> anyhow::Res
     let mut refusals = String::new(heap);
     let (last, read) = runs::run::run(start, file, &mut refusals)?;
     ensure!(read.is_ok(), "the file of steps ends inside a step");
-    let mut text = [0; TEXT];
-    let mut out = Output {
-        memory: &mut text,
-        at: 0,
-    };
-    let sealed = put_seal(&mut out, &last, party, opening);
+    let (text, sealed) = whole(heap, 256, |out| put_seal(out, &last, party, opening))?;
     match sealed {
-        Ok(()) => rt.write_all(out.written())?,
-        Err(_) => rt.stderr().write_all(out.written())?,
+        Ok(()) => rt.write_all(text.as_slice())?,
+        Err(_) => rt.stderr().write_all(text.as_slice())?,
     }
     Ok(sealed.is_ok())
 }

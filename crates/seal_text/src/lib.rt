@@ -30,7 +30,7 @@ fn seal_for(list: Option<ClosedList>, party: u8, opening: &[u8]) -> Result<[u8; 
         return Err(NoSeal::NoSuchParty);
     }
     let list = list.ok_or(NoSeal::ListOpen)?;
-    let wanted = SALT + list.length as usize;
+    let wanted = SALT + usize::from(list.length);
     let given = opening.len();
     if given != wanted {
         return Err(NoSeal::OpeningLength { wanted, given });
@@ -42,7 +42,7 @@ fn put_lines(out: &mut Output, party: u8, seal: &[u8])
     ensures { Writes out.old out.new (seal_lines party seal.now) }
 {
     out.put(b"party ");
-    out.put_decimal(party as usize);
+    out.put_decimal(party);
     out.put(b"\nseal ");
     out.put_hex(seal);
     out.put(b"\nKeep your opening secret until the seals are closed, and hand it in then.\n");
