@@ -2,9 +2,8 @@
 use Rattle.std.proofs.Common.{◌≡◌, ℕ, zero, suc, get_or, ◌+◌, ◌-◌, ◌<◌, ◌≤◌, min, List, [], ◌∷◌, ◌++◌, length, take, drop, set, sym, refl, ap, ◌∙◌, ⊎_elim, zero-add, arith, take-append-drop}
 use Rattle.std.proofs.Math.Seq.{paste, paste-suc, take-suc}
 use Rattle.std.proofs.lemmas.List.Edits.{paste_none, length-paste}
-use Rattle.std.proofs.lemmas.List.{drop_all, flat_map_more, length-take-le, take_all, take_at}
+use Rattle.std.proofs.lemmas.List.{drop_all, length-take-le, take_all, take_at}
 use Rattle.std.proofs.lemmas.Bool.{cases_lt, cond_below, cond_above}
-use Rattle.std.specs.List.{flat_map}
 use Rattle.output.specs.Output.{put, put_byte}
 
 -- two rows one after the other
@@ -17,21 +16,15 @@ pub put_none : (m : List ℕ × ℕ) → put m [] ≡ m
 unfolding put
 put_none m = refl
 
--- one byte where there is room, and where there is none
-byte_fits : (m : List ℕ) (at b : ℕ) → at < length m → put_byte (m, at) b ≡ (set m at b, at + 1)
-byte_fits m at b l = sym (cond_below at (length m) (set m at b, at + 1) (m, at) l)
-
-byte_lost : (m : List ℕ) (at b : ℕ) → length m ≤ at → put_byte (m, at) b ≡ (m, at)
-byte_lost m at b l = sym (cond_above at (length m) (set m at b, at + 1) (m, at) (m, at) l refl)
-
+-- one byte where there is room, and bytes where there is none
 pub put_one : (m : List ℕ) (at b : ℕ) → at < length m → put (m, at) (b ∷ []) ≡ (set m at b, at + 1)
 unfolding put
-put_one m at b l = byte_fits m at b l
+put_one m at b l = sym (cond_below at (length m) (set m at b, at + 1) (m, at) l)
 
 pub put_full : (m : List ℕ) (at : ℕ) (bs : List ℕ) → length m ≤ at → put (m, at) bs ≡ (m, at)
 unfolding put
 put_full m at [] l = refl
-put_full m at (b ∷ bs) l = ap (λ (z : List ℕ × ℕ). put z bs) (byte_lost m at b l) ∙ put_full m at bs l
+put_full m at (b ∷ bs) l = ap (λ (z : List ℕ × ℕ). put z bs) (sym (cond_above at (length m) (set m at b, at + 1) (m, at) (m, at) l refl)) ∙ put_full m at bs l
 
 -- as many bytes as fit
 pub put_taken : (m : List ℕ) (at : ℕ) (bs : List ℕ) (n : ℕ) → at + n ≤ length m → n ≤ length bs → put (m, at) (take n bs) ≡ (paste m at bs n, at + n)
@@ -91,19 +84,3 @@ told m bs l = omega (arith, place)
   where
     place : (put (m, 0) bs).1 ≡ 0 + min (length bs) (length m - 0)
     place = ap (λ (z : List ℕ × ℕ). z.1) (put_front m 0 bs (min (length bs) (length m - 0)) (omega arith) refl)
-
--- one row after another
-pub put_then : (m : List ℕ × ℕ) {n o : List ℕ × ℕ} (xs ys : List ℕ) → n ≡ put m xs → o ≡ put n ys → o ≡ put m (xs ++ ys)
-put_then m xs ys p q = q ∙ (ap (λ (z : List ℕ × ℕ). put z ys) p ∙ sym (put_append m xs ys))
-
--- a loop that writes: what is left to write gets shorter by what a turn wrote, and where nothing is left all is written
-pub put_turn : (m : List ℕ × ℕ) {o w : List ℕ × ℕ} (xs : List ℕ) {left : List ℕ} (rest : List ℕ) → o ≡ put m xs → left ≡ xs ++ rest → put m left ≡ w → put o rest ≡ w
-put_turn m xs rest p e h = ap (λ (z : List ℕ × ℕ). put z rest) p ∙ (sym (put_append m xs rest) ∙ (ap (put m) (sym e) ∙ h))
-
-pub put_done : (m : List ℕ × ℕ) {w : List ℕ × ℕ} {left : List ℕ} → left ≡ [] → put m left ≡ w → m ≡ w
-put_done m e h = sym (put_none m) ∙ (ap (put m) (sym e) ∙ h)
-
--- one more of several
-pub put_joined : {X : Type 0} (f : X → List ℕ) (m : List ℕ × ℕ) {n o : List ℕ × ℕ} (xs : List X) {more : List X} (x : X)
-    → n ≡ put m (flat_map f xs) → o ≡ put n (f x) → more ≡ xs ++ x ∷ [] → o ≡ put m (flat_map f more)
-put_joined f m xs x h e a = put_then m (flat_map f xs) (f x) h e ∙ ap (put m) (flat_map_more f [] xs x ∙ ap (flat_map f) (sym a))

@@ -1,6 +1,6 @@
 -- Writing one thing after another. Assumes nothing.
 use Rattle.std.proofs.Common.{◌≡◌, List, [], ◌++◌, ℕ, sym, refl, ap, ◌∙◌}
-use Rattle.output.proofs.Puts.{put_append, put_none, put_turn, put_done}
+use Rattle.output.proofs.Puts.{put_append, put_none}
 use Rattle.output.specs.Output.{put}
 use Rattle.output.specs.Writes.{Writes}
 use Rattle.output.specs.declared.Output.{Output}
@@ -31,9 +31,9 @@ underway_none o all = record { same = refl; ends = refl }
 pub underway_turn : {o p q : Output} {all left xs rest : List ℕ} → left ≡ xs ++ rest → Underway o p all left → Writes p q xs → Underway o q all rest
 underway_turn {p = p} {xs = xs} {rest = rest} e u w = record {
   same = w.same ∙ u.same;
-  ends = put_turn (p.memory.now, p.at) xs rest w.written e u.ends;
+  ends = ap (λ (z : List ℕ × ℕ). put z rest) w.written ∙ (sym (put_append (p.memory.now, p.at) xs rest) ∙ (ap (put (p.memory.now, p.at)) (sym e) ∙ u.ends));
 }
 
 -- where nothing is left all is written
 pub underway_done : {o p : Output} {all left : List ℕ} → left ≡ [] → Underway o p all left → Writes o p all
-underway_done {p = p} e u = record { same = u.same; written = put_done (p.memory.now, p.at) e u.ends }
+underway_done {p = p} e u = record { same = u.same; written = sym (put_none (p.memory.now, p.at)) ∙ (ap (put (p.memory.now, p.at)) (sym e) ∙ u.ends) }
