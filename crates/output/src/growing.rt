@@ -19,7 +19,7 @@ pub fn whole<T: Drop, F: Fn(&mut Output) -> T + Drop>(
         (begun ended : MutBor Output) × F.post write begun r.1 ended × Whole begun.now ended.now r.0.items) }
 {
     let mut lent = size;
-    for _ in 0..64 {
+    loop {
         let mut memory = vec![in heap; 0; lent]?;
         let mut out = Output {
             memory: memory.as_mut_slice(),
@@ -29,7 +29,6 @@ pub fn whole<T: Drop, F: Fn(&mut Output) -> T + Drop>(
         if out.at < out.memory.len() {
             return Ok((Vec::from_slice(heap, out.written())?, answer));
         }
-        lent = lent.saturating_mul(2).max(1);
+        lent = 2 * memory.len() + 1;
     }
-    Err(AllocError)
 }
