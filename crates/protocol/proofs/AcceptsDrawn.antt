@@ -1,5 +1,5 @@
 -- The protocol of a draw, as it is read again. Assumes nothing.
-use Rattle.std.proofs.Common.{◌≡◌, ℕ, zero, suc, ◌+◌, ◌-◌, ◌<◌, ◌≤◌, true, false, not, List, [], ◌∷◌, ◌++◌, map, length, get_or, drop, IfSome, Some, None, Option, sym, refl, ap, ◌∙◌, add-one, arith}
+use Rattle.std.proofs.Common.{◌≡◌, ℕ, zero, suc, ◌+◌, ◌-◌, ◌<◌, ◌≤◌, true, false, not, List, [], ◌∷◌, ◌++◌, length, get_or, drop, IfSome, Some, None, Option, sym, refl, ap, ◌∙◌, add-one, arith}
 use Rattle.std.specs.List.{flat_map}
 use Rattle.std.specs.Option.{option_map}
 use Rattle.std.specs.Ordering.{is_lt}
@@ -12,16 +12,13 @@ use Rattle.refusals.specs.declared.Refusal.TheVariants.{WrongOrder}
 use Rattle.sha256.specs.Sha256.{sha256}
 use Rattle.entries.specs.Rows.{packed_rows, row_order}
 use Rattle.seals.specs.Seal.{seal_of}
-use Rattle.order.specs.Drawings.{Drawing, drawn, run_out}
-use Rattle.sum.specs.Sums.{sum_of}
 use Rattle.protocol.specs.Check.{Verdict, hash_of, is_wrong, wrong_opening, name_before, opened_count, drawing_of, order_fault, verdict}
 use Rattle.protocol.specs.Draws.{Opening, no_party, OfDraw, acceptance, AcceptsDrawn}
 use Rattle.protocol.specs.Layout.{name_count, name_at, name_of, length_at, bits_length, party_count, party_at, party_of, parties_of, order_at, numbers_at, size}
 use Rattle.protocol.specs.Protocol.{Party, Protocol, word, written_party, written_order, written, openings, drawing_from, ordered}
-use Rattle.order.proofs.Slices.{drawn_length}
 use Rattle.protocol.proofs.Verdicts.{verdict_accepted}
 use Rattle.protocol.proofs.NamesRead.{name_tail, name_length, name_is}
-use Rattle.protocol.proofs.OrderNumbers.{words_length, numbers_are}
+use Rattle.protocol.proofs.OrderNumbers.{order_long, words_length, numbers_are}
 use Rattle.protocol.proofs.PartiesRead.{mark, Long, Shaped, party_tail, party_told, party_is}
 use Rattle.protocol.proofs.Passes.{Fit, Ranged, Sealed, shape_passes, range_passes, seal_passes, early_passes}
 use Rattle.protocol.proofs.Tails.{tail_at, tail_first, tail_drop, tail_long, tail_word, word_is}
@@ -109,12 +106,6 @@ module _ (d : Protocol) (o : OfDraw d) where
   drawing_same : drawing_of B ≡ drawing_from n d.bits_length d.parties
   drawing_same = rw (count, bits, parties_same) refl
 
-  -- the order has a number for each name
-  whole_order : (ns : List ℕ) (D : Drawing) → D ≡ drawing_from n d.bits_length d.parties → Some ns ≡ ordered D → length ns ≡ n
-  whole_order ns (drawn ms used) e h =
-      ap length (let z : ns ≡ ms = cc in z) ∙ drawn_length n (sum_of d.bits_length (map (drop 32) (openings d.parties))) 0 ms used (sym e)
-  whole_order ns run_out e h = cc
-
   size_by : (r : Option (List ℕ)) → d.order ≡ r → drop (order_at B) B ≡ written_order r → size B ≡ length B
   unfolding size
   size_by None e t =
@@ -124,7 +115,7 @@ module _ (d : Protocol) (o : OfDraw d) where
   size_by (Some ns) e t =
       let l = tail_long B (order_at B) (written_order (Some ns)) t (omega arith) in
       let w : get_or B (order_at B) 0 ≡ 1 = tail_first B (order_at B) _ t in
-      let m : length ns ≡ n = whole_order ns (drawing_from n d.bits_length d.parties) refl (sym e ∙ o.drawn) in
+      let m : length ns ≡ n = order_long n d.bits_length d.parties ns (sym o.drawn ∙ e) in
       let long = words_length ns in
       grind (arith, nat_tests, count)
 

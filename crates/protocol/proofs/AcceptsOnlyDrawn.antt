@@ -15,14 +15,12 @@ use Rattle.sha256.specs.Sha256.{sha256}
 use Rattle.entries.specs.Rows.{packed_rows}
 use Rattle.seals.specs.Seal.{seal_of}
 use Rattle.listing.specs.Listing.{Sorted}
-use Rattle.order.specs.Drawings.{Drawing, drawn, run_out}
-use Rattle.sum.specs.Sums.{sum_of}
 use Rattle.protocol.specs.Check.{Verdict, accepted, hash_of, is_wrong, opened_count, drawing_of, order_fault, early_fault, judged, judged_order, verdict}
 use Rattle.protocol.specs.Draws.{Bytes, Name, PartyOf, no_party, OfDraw, acceptance, AcceptsOnlyDrawn}
 use Rattle.protocol.specs.Layout.{name_count, name_at, name_of, length_at, bits_length, party_count, opening_size, party_at, party_of, parties_of, order_at, numbers_at, size}
-use Rattle.protocol.specs.Protocol.{Protocol, word, written_order, written, openings, ordered}
-use Rattle.order.proofs.Slices.{drawn_length}
+use Rattle.protocol.specs.Protocol.{Protocol, word, written_order, written, ordered}
 use Rattle.protocol.proofs.Fronts.{part_long, bytes_part}
+use Rattle.protocol.proofs.OrderNumbers.{order_long}
 use Rattle.protocol.proofs.Passes.{map_none, Ranged, Sealed, shape_passed, range_passed, seal_passed, early_passed}
 use Rattle.protocol.proofs.Places.{order_last}
 use Rattle.protocol.proofs.Rewritten.{name_long, names_stand, party_within, order_front, numbers_front}
@@ -136,11 +134,6 @@ module _ (B : List ℕ) (byte : Bytes B) (whole : size B ≡ length B) (r : Rang
       }
 
   -- the order as it stands
-  whole_order : (ns : List ℕ) (D : Drawing) → D ≡ drawing_of B → ordered D ≡ Some ns → length ns ≡ name_count B
-  whole_order ns (drawn ms used) e h =
-      ap length (let z : ns ≡ ms = cc in z) ∙ drawn_length (name_count B) (sum_of (bits_length B) (map (drop 32) (openings (parties_of B)))) 0 ms used (sym e)
-  whole_order ns run_out e h = cc
-
   order_by : (o : Option (List ℕ)) → ordered (drawing_of B) ≡ o → order_fault B o ≡ None → B ≡ take (order_at B) B ++ written_order o
   unfolding size
   order_by None e g =
@@ -150,7 +143,7 @@ module _ (B : List ℕ) (byte : Bytes B) (whole : size B ≡ length B) (r : Rang
   order_by (Some ns) e g =
       let at : ℕ = order_at B + 1 in
       let w : get_or B (order_at B) 0 ≡ 1 = grind (arith, nat_tests) in
-      let m : length ns ≡ name_count B = whole_order ns (drawing_of B) refl e in
+      let m : length ns ≡ name_count B = order_long (name_count B) (bits_length B) (parties_of B) ns e in
       let t : bytes_eq (numbers_at B at (length ns)) ns ≡ true = grind (arith, nat_tests) in
       let same : numbers_at B at (length ns) ≡ ns = (bytes_eq-Decides (numbers_at B at (length ns)) ns).0 t in
       let z : size B ≡ at + 2 * name_count B = grind (arith, nat_tests) in

@@ -3,6 +3,7 @@ use Rattle.std.proofs.Common.{◌≡◌, ℕ, zero, suc, ◌+◌, ◌-◌, ◌�
 use Rattle.std.specs.List.{range_with_len, filter}
 use Rattle.std.specs.Option.{option_to_list}
 use Rattle.std.proofs.lemmas.List.FromFn.{map-range_with_len_more}
+use Rattle.std.proofs.lemmas.List.Sums.{length-filter, count_by-le-length}
 use Rattle.std.proofs.lemmas.List.{flat_map_more, map-append}
 use Rattle.sum.specs.Sums.{sum_from, xor_bytes}
 use Rattle.protocol.specs.Layout.{opened_in, party_of}
@@ -15,14 +16,6 @@ pub sum_append : (s : List ℕ) (rows more : List (List ℕ)) → sum_from s (ro
 unfolding sum_from
 sum_append s [] more = refl
 sum_append s (r ∷ rows) more = sum_append (xor_bytes s r) rows more
-
-filter_le : {X : Type 0} (b : Bool) (x : X) (ys xs : List X) → length ys ≤ length xs → length (cond b (x ∷ ys) ys) ≤ length (x ∷ xs)
-filter_le true x ys xs h = omega arith
-filter_le false x ys xs h = omega arith
-
-length-filter-le : {X : Type 0} (t : X → Bool) (xs : List X) → length (filter t xs) ≤ length xs
-length-filter-le t [] = omega arith
-length-filter-le t (x ∷ xs) = filter_le (t x) x (filter t xs) xs (length-filter-le t xs)
 
 module _ (bytes : List ℕ) where
   -- the openings of the first k parties
@@ -39,10 +32,7 @@ module _ (bytes : List ℕ) where
       → after ≡ sum_from s (map (drop 32) (so_far (k + 1)))
   summed_more s was after k h e =
       let new : List (List ℕ) = option_to_list (party_of bytes k).opening in
-      e
-      ∙ (ap (λ (z : List ℕ). sum_from z (map (drop 32) new)) h
-      ∙ (sym (sum_append s (map (drop 32) (so_far k)) (map (drop 32) new))
-      ∙ ap (sum_from s) (sym (map-append (drop 32) (so_far k) new) ∙ ap (map (drop 32)) (sym (more k)))))
+      e ∙ rw (h, more k, map-append (drop 32) (so_far k) new) (sym (sum_append s (map (drop 32) (so_far k)) (map (drop 32) new)))
 
   abbrev opens : List ℕ × ℕ → Bool
   opens p = opened_in p.0 p.1
@@ -61,4 +51,4 @@ module _ (bytes : List ℕ) where
   opened_filter n = counted_from 0 (n - 0) ∙ ap (λ (m : ℕ). length (openings (map (party_of bytes) (range_with_len 0 m)))) (let z : n - 0 ≡ n = omega arith in z)
 
   pub few_opened : (n : ℕ) → length (filter opens (parties_between bytes 0 n)) ≤ n
-  few_opened n = omega (arith, length-filter-le opens (parties_between bytes 0 n), turns bytes n)
+  few_opened n = omega (arith, length-filter opens (parties_between bytes 0 n), count_by-le-length opens (parties_between bytes 0 n), turns bytes n)

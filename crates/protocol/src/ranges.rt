@@ -18,7 +18,7 @@ fn check_name(name: &Name, before: &[u8]) -> Result<(), Refusal>
     ensures { result_err result ≡ option_map (λ at. OutOfRange at) (fault_in_name name.now.bytes.now (name_at name.now.bytes.now name.now.number) before.now) }
 {
     let length = name.length() as usize;
-    if length < 1 || length > LONGEST_NAME {
+    if !(1..=LONGEST_NAME).contains(&length) {
         return Err(Refusal::OutOfRange(name.at));
     }
     if before < name.text() {
@@ -61,12 +61,11 @@ fn check_marks(layout: &Layout) -> Result<(), Refusal>
 pub(crate) fn check_ranges(layout: &Layout) -> Result<(), Refusal>
     ensures { result_err result ≡ option_map (λ at. OutOfRange at) (range_fault layout.now.bytes.now) }
 {
-    if layout.names < 1 || layout.names > MOST_NAMES {
+    if !(1..=MOST_NAMES).contains(&layout.names) {
         return Err(Refusal::OutOfRange(0));
     }
     check_names(layout)?;
-    let length = layout.length();
-    if length < LEAST_BITS || length > MOST_BITS {
+    if !(LEAST_BITS..=MOST_BITS).contains(&layout.length()) {
         return Err(Refusal::OutOfRange(layout.length_at));
     }
     if layout.parties == 0 {
