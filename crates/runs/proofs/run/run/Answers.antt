@@ -13,7 +13,7 @@ returns-in-Err-clause-text c = (ends _ _ _ _ _ _ _ c.loop-before.invariant.2 (se
 
 pub loop-before-preserved : goal.loop-before-preserved
 loop-before-preserved c =
-    (search rules, search rules, goes_on _ _ _ _ _ _ _ c.loop-before.invariant.2 _ _ _ (search rules) (search rules) _ _ (search rules) (search rules) _ _ c.in_ok-draw.ensures.state c.in_ok-draw.ensures.text)
+    (search rules, search rules, goes_on _ _ _ _ _ _ _ c.loop-before.invariant.2 _ _ _ (search rules) (search rules) c.in-Some.before _ (search rules) (search rules) _ _ c.in_ok-draw.ensures.state c.in_ok-draw.ensures.text)
 
 pub returns-clause-state : goal.returns-clause-state
 returns-clause-state c = (ends _ _ _ _ _ _ _ c.loop-before.invariant.2 (search rules)).0
