@@ -24,9 +24,6 @@ pub record Underway (begun here : Output) (all left : List ℕ) : Type 0 where
   pub same : here.memory.ghost_name ≡ begun.memory.ghost_name
   pub ends : put (here.memory.now, here.at) left ≡ put (begun.memory.now, begun.at) all
 
-pub underway_none : (o : Output) (all : List ℕ) → Underway o o all all
-underway_none o all = record { same = refl; ends = refl }
-
 -- what is left gets shorter by what a turn wrote
 pub underway_turn : {o p q : Output} {all left xs rest : List ℕ} → left ≡ xs ++ rest → Underway o p all left → Writes p q xs → Underway o q all rest
 underway_turn {p = p} {xs = xs} {rest = rest} e u w = record {

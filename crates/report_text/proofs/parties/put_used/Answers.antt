@@ -3,6 +3,3 @@ use Rattle.report_text.proofs.parties.put_used.Goals as goal
 
 pub returns-in-Some : goal.returns-in-Some
 returns-in-Some c = rw c.in-Some.is (writes_then c.put.ensures (writes_then c.put_decimal.ensures c.put-in-Some.ensures))
-
-pub returns-in-None : goal.returns-in-None
-returns-in-None c = rw c.in-None.is c.put-in-None.ensures

@@ -1,12 +1,9 @@
 use Rattle.std.proofs.Common.{◌+◌, get_or}
 use Rattle.std.proofs.lemmas.List.{at_drop_more, at_drop_all}
-use Rattle.output.proofs.Writing.{underway_none, underway_turn, underway_done}
+use Rattle.output.proofs.Writing.{underway_turn, underway_done}
 use Rattle.protocol.specs.Layout.{name_of}
 use Rattle.report_text.specs.Report.{place_line, place_lines}
 use Rattle.report_text.proofs.places.put_places.Goals as goal
-
-pub loop-k-init : goal.loop-k-init
-loop-k-init c = underway_none _ _
 
 pub loop-k-preserved : goal.loop-k-preserved
 loop-k-preserved c =
