@@ -36,20 +36,31 @@ fn add_order(text: &mut String, order: Option<&[u16]>) -> Result<(), AllocError>
     Ok(())
 }
 
-// The two lines that end a draw: how many names, parties and openings there were, and the order.
-pub fn summary_text(
-    heap: Global,
-    names: u16,
-    parties: u8,
-    opened: u8,
-    order: Option<&[u16]>,
-) -> Result<String, AllocError>
-    ensures { IfOk result (λ s. string_bytes s ≡ summary_lines names parties opened (option_map (λ x. x.now) order.entry)) }
-{
-    let mut text = format!(in heap; "names {names} parties {parties} opened {opened}\norder")?;
-    add_order(&mut text, order)?;
-    text.push_str("\n")?;
-    Ok(text)
+// What a draw ends with: how many names, parties and openings there were, and the order if there is one.
+#[derive(Clone, Copy, Debug)]
+pub struct Summary<'a> {
+    pub names: u16,
+    pub parties: u8,
+    pub opened: u8,
+    pub order: Option<&'a [u16]>,
+}
+
+impl Summary<'_> {
+    // The two lines that tell it.
+    pub fn text(&self, heap: Global) -> Result<String, AllocError>
+        ensures { IfOk result (λ s. string_bytes s ≡ summary_lines self.now.names self.now.parties self.now.opened (option_map (λ x. x.now) self.now.order)) }
+    {
+        let Summary {
+            names,
+            parties,
+            opened,
+            order,
+        } = *self;
+        let mut text = format!(in heap; "names {names} parties {parties} opened {opened}\norder")?;
+        add_order(&mut text, order)?;
+        text.push_str("\n")?;
+        Ok(text)
+    }
 }
 
 // The printed order tells the order: two summaries with the same counts that print alike have the same order, or none.
