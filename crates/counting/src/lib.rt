@@ -1,5 +1,6 @@
-// What is counted of the draw: of all the rows of bits that one party can put in, as many lead to one order as to any other, and few lead to none.
-// Statements and proofs only: each function below has a theorem for its contract, and the programs make no call of it.
+// What is counted of the draw: of all the rows of bits that one party can put in, as many lead to one order as to any
+// other, and few lead to none. Statements and proofs only: each function below has a theorem for its contract, and the
+// programs make no call of it.
 #![tactic(auto)]
 
 ghost use Rattle.counting.specs.Rows.{BitsAdded, Packed, EachRow};

@@ -24,7 +24,7 @@ fn save(rt: &HostRuntime, path: &str, bytes: &[u8]) -> anyhow::Result<()> {
 }
 
 // Prints a report; the protocol is saved before the summary is printed, so that nobody reads of a draw that was lost.
-fn tell(rt: &HostRuntime, report: Report, path: Option<&String>) -> anyhow::Result<()> {
+fn tell(rt: &HostRuntime, report: Report, path: Option<&str>) -> anyhow::Result<()> {
     let Report { refusals, finish } = report;
     rt.print(refusals.as_str())?;
     let Finish {
@@ -33,27 +33,27 @@ fn tell(rt: &HostRuntime, report: Report, path: Option<&String>) -> anyhow::Resu
         protocol,
     } = finish?;
     if let Some(path) = path {
-        save(rt, path.as_str(), protocol.as_slice())?;
+        save(rt, path, protocol.as_slice())?;
     }
     rt.print(summary.as_str())?;
     rt.eprint(left_out.as_str())?;
     Ok(())
 }
 
-fn run(rt: &HostRuntime) -> anyhow::Result<bool> {
+fn run(rt: &HostRuntime) -> anyhow::Result<ExitCode> {
     let words: Vec<String> = env::args(rt)?.skip(1).collect(rt.alloc())?;
     let (steps, protocol) = match words.as_slice() {
         [steps] => (steps, None),
-        [steps, protocol] => (steps, Some(protocol)),
+        [steps, protocol] => (steps, Some(protocol.as_str())),
         _ => bail!(USAGE),
     };
     if steps.as_str() == "--help" {
         println!(rt; "{USAGE}")?;
-        return Ok(true);
+        return Ok(ExitCode::SUCCESS);
     }
     let file = fs::read(rt, steps.as_str()).context(format_args!("cannot read {steps}"))?;
     tell(rt, draw(rt.alloc(), file.as_slice())?, protocol)?;
-    Ok(true)
+    Ok(ExitCode::SUCCESS)
 }
 
 fn main(rt: HostRuntime) -> ExitCode {

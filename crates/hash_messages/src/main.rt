@@ -30,7 +30,7 @@ fn hashes(heap: Global, bytes: &[u8]) -> anyhow::Result<String> {
     Ok(text)
 }
 
-fn run(rt: &HostRuntime) -> anyhow::Result<bool> {
+fn run(rt: &HostRuntime) -> anyhow::Result<ExitCode> {
     let words: Vec<String> = env::args(rt)?.skip(1).collect(rt.alloc())?;
     let [name] = words.as_slice() else {
         bail!("usage: hash_messages FILE");
@@ -38,7 +38,7 @@ fn run(rt: &HostRuntime) -> anyhow::Result<bool> {
     let bytes = fs::read(rt, name.as_str()).context(format_args!("cannot read {name}"))?;
     let text = hashes(rt.alloc(), bytes.as_slice())?;
     print!(rt; "{text}")?;
-    Ok(true)
+    Ok(ExitCode::SUCCESS)
 }
 
 fn main(rt: HostRuntime) -> ExitCode {

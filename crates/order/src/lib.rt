@@ -1,6 +1,6 @@
-// The order of n names from the bits of bytes, by recursion over the names that are left.
-// A number below n is drawn: the name of that number is first, and is taken out; then a number below n - 1 among those left in their order, and
-// so on to the last. The order is told as numbers of the list, 0 to n - 1.
+// The order of n names from the bits of bytes, by recursion over the names that are left. A number below n is drawn:
+// the name of that number is first, and is taken out; then a number below n - 1 among those left in their order, and so
+// on to the last. The order is told as numbers of the list, 0 to n - 1.
 #![tactic(auto)]
 
 ghost use Rattle.std.specs.Prelude.{◌≡◌, ◌-◌, ◌/◌, ◌^◌, ◌<◌, length, take, drop, if◌then◌else◌, nat_lt, slice_index};
@@ -12,11 +12,12 @@ ghost use Rattle.uniform.specs.Bits.{bits};
 
 use uniform::BitReader;
 
-// Names have numbers of 16 bits, of which the last is no name's.
-const MOST_NAMES: usize = 65_535;
+// Places have numbers of 16 bits, of which the last is no place's.
+const MOST_PLACES: usize = 65_535;
 
-// Draws the order of as many names as the slice has places, from the bits from a place on. Past 65,535 places the slice stays as it is, and so does
-// all of it where the bits run out: nothing is written before the last number is drawn. Gives how many bits were read, or none where they have run out.
+// Draws the order of as many names as the slice has places, from the bits from a place on. Past 65,535 places the slice
+// stays as it is, and so does all of it where the bits run out: nothing is written before the last number is drawn.
+// Gives how many bits were read, or none where they have run out.
 pub fn draw_order(order: &mut [u16], bytes: &[u8], from: usize) -> Option<usize>
     ensures is { result ≡ outcome (drawn_in order.old bytes.now from) }
     ensures after { order.new ≡ left_in (drawn_in order.old bytes.now from) order.old }
@@ -24,8 +25,9 @@ pub fn draw_order(order: &mut [u16], bytes: &[u8], from: usize) -> Option<usize>
     ensures exact { ExactlyRead (names_in order.old) (drop from (bits bytes.now)) (drawn_in order.old bytes.now from) }
 {
     let mut reader = BitReader::new(bytes, from)?;
-    let n = order.len().min(MOST_NAMES);
-    let mut names = [u16::MAX; MOST_NAMES];
+    let n = order.len().min(MOST_PLACES);
+    // A row of fixed size, since a draw is not to fail for want of memory.
+    let mut names = [u16::MAX; MOST_PLACES];
     let left = &mut names[0..n];
     number(left);
     draw_rest(&mut order[..n], left, &mut reader)?;

@@ -1,4 +1,5 @@
-// Draws the order of 1,400 names from 8,192 bytes as often as the first argument says, for timing. Each order changes a byte for the next.
+// Draws the order of 1,400 names from 8,192 bytes as often as the first argument says, for timing. Each order changes a
+// byte for the next.
 #![tactic(auto)]
 
 use order::draw_order;

@@ -8,7 +8,8 @@ use crate::Output;
 use std::alloc::{AllocError, Global};
 
 // All that is written into an output, and what the writer answers. Where the text reaches the end of the memory there may
-// be more, so twice as much is lent, and it is written anew.
+// be more, so twice as much is lent, and it is written anew: the text is what the writer left that once in memory with room
+// to spare. That the writer may be called is required, since no test can stand in for it.
 pub fn whole<T: Drop, F: Fn(&mut Output) -> T + Drop>(
     heap: Global,
     size: usize,

@@ -13,7 +13,8 @@ mod growing;
 
 pub use growing::whole;
 
-// Lent memory, and the place in it where the next byte goes.
+// Lent memory, and the place in it where the next byte goes. It is no `fmt::Write`: what is put may be any bytes, and memory
+// that is full is no error.
 //
 // What is put is written as far as the memory goes, and the place moves behind what is written. So a place before the end
 // of the memory tells that all is there; a caller who finds it at the end lends more and begins anew.
@@ -72,6 +73,7 @@ impl Output<'_> {
     }
 }
 
+// The library's digit is a character that may be none, so it is no plainer.
 fn hex_digit(value: u8) -> u8
     requires { value < 16 }
     ensures { result ≡ hex_digit value }

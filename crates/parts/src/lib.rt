@@ -1,4 +1,4 @@
-// Parts of bytes, for every place: none past the end.
+// Parts of bytes and of other rows, for every place: nothing past the end.
 #![tactic(auto)]
 
 ghost use Rattle.std.specs.Prelude.{◌≡◌, drop, slice_index, take};
@@ -11,25 +11,25 @@ pub fn byte_at(bytes: &[u8], at: usize) -> u8
     bytes.get(at).copied().unwrap_or(0)
 }
 
-// The bytes from a place on, none past the end.
-pub fn behind(bytes: &[u8], at: usize) -> &[u8]
-    ensures { result.now ≡ drop at bytes.now }
+// The items from a place on, none past the end.
+pub fn behind<T>(items: &[T], at: usize) -> &[T]
+    ensures { result.now ≡ drop at items.now }
 {
-    &bytes[at.min(bytes.len())..]
+    &items[at.min(items.len())..]
 }
 
-// The bytes before a place, all of them past the end.
-pub fn front(bytes: &[u8], end: usize) -> &[u8]
-    ensures { result.now ≡ take end bytes.now }
+// The items before a place, all of them past the end.
+pub fn front<T>(items: &[T], end: usize) -> &[T]
+    ensures { result.now ≡ take end items.now }
 {
-    &bytes[..end.min(bytes.len())]
+    &items[..end.min(items.len())]
 }
 
-// So many bytes from a place on, as far as they go.
-pub fn part(bytes: &[u8], from: usize, size: usize) -> &[u8]
-    ensures { result.now ≡ take size (drop from bytes.now) }
+// So many items from a place on, as far as they go.
+pub fn part<T>(items: &[T], from: usize, size: usize) -> &[T]
+    ensures { result.now ≡ take size (drop from items.now) }
 {
-    front(behind(bytes, from), size)
+    front(behind(items, from), size)
 }
 
 // The bytes from one place to another, as far as they go.

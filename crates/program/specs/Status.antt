@@ -1,8 +1,9 @@
 -- With which status a program ends. Assumes nothing.
-use Rattle.std.specs.Prelude.{ℕ, Bool, true, false, Ok, Err, Result}
+use Rattle.std.specs.Prelude.{ℕ, Ok, Err, Result}
+use Rattle.std.specs.Process.{exit_status}
+use Rattle.std.specs.declared.process.ExitCode.{ExitCode}
 
--- 0 where all is well, else 1
-abbrev pub status_of : {E : Type 0} → Result Bool E → ℕ
-status_of (Ok true) = 0
-status_of (Ok false) = 1
+-- the status that it gives, or 1 for an error
+abbrev pub status_of : {E : Type 0} → Result ExitCode E → ℕ
+status_of (Ok status) = exit_status status
 status_of (Err e) = 1

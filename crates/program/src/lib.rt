@@ -7,14 +7,13 @@ ghost use Rattle.program.specs.Status.{status_of};
 
 use std::process::ExitCode;
 
-// The status of a program that ended so. An error is told after the program's name; where even that cannot be printed, the
-// status tells it.
-pub fn finish(rt: &HostRuntime, name: &str, ended: anyhow::Result<bool>) -> ExitCode
+// The status of a program that ended so. An error is told on the error output, after the program's name; no clause can say
+// what is printed, and where it cannot be printed the status tells it.
+pub fn finish(rt: &HostRuntime, name: &str, ended: anyhow::Result<ExitCode>) -> ExitCode
     ensures { exit_status result ≡ status_of ended }
 {
     match ended {
-        Ok(true) => ExitCode::SUCCESS,
-        Ok(false) => ExitCode::FAILURE,
+        Ok(status) => status,
         Err(e) => {
             let _ = eprintln!(rt; "{name}: {e:#}");
             ExitCode::FAILURE

@@ -11,24 +11,28 @@ use std::{env, fs};
 const USAGE: &str = "usage: repeat PROTOCOL";
 
 // Prints what is to be said of the protocol in a file, and answers whether it is accepted.
-fn repeat(rt: &HostRuntime, path: &str) -> anyhow::Result<bool> {
+fn repeat(rt: &HostRuntime, path: &str) -> anyhow::Result<ExitCode> {
     let protocol = fs::read(rt, path).context(format_args!("cannot read {path}"))?;
-    let (text, accepted) = match repeat_text(rt.alloc(), protocol.as_slice())? {
-        Ok(text) => (text, true),
-        Err(text) => (text, false),
-    };
-    rt.print(text.as_str())?;
-    Ok(accepted)
+    match repeat_text(rt.alloc(), protocol.as_slice())? {
+        Ok(text) => {
+            rt.print(text.as_str())?;
+            Ok(ExitCode::SUCCESS)
+        }
+        Err(text) => {
+            rt.print(text.as_str())?;
+            Ok(ExitCode::FAILURE)
+        }
+    }
 }
 
-fn run(rt: &HostRuntime) -> anyhow::Result<bool> {
+fn run(rt: &HostRuntime) -> anyhow::Result<ExitCode> {
     let words: Vec<String> = env::args(rt)?.skip(1).collect(rt.alloc())?;
     let [word] = words.as_slice() else {
         bail!(USAGE);
     };
     if word.as_str() == "--help" {
         println!(rt; "{USAGE}")?;
-        return Ok(true);
+        return Ok(ExitCode::SUCCESS);
     }
     repeat(rt, word.as_str())
 }

@@ -18,7 +18,7 @@ fn put(
     heap: Global,
     out: &mut Output,
     protocol: &[u8],
-    name: Option<&String>,
+    name: Option<&str>,
 ) -> Result<bool, AllocError> {
     match name {
         Some(name) => Ok(put_place(heap, out, protocol, name.as_bytes())?.is_ok()),
@@ -27,29 +27,28 @@ fn put(
 }
 
 // Prints what there is to tell, and answers whether all is well. What is amiss goes to stderr.
-fn tell(rt: &HostRuntime, protocol: &[u8], name: Option<&String>) -> anyhow::Result<bool> {
+fn tell(rt: &HostRuntime, protocol: &[u8], name: Option<&str>) -> anyhow::Result<ExitCode> {
     let heap = rt.alloc();
     let size = protocol.len().saturating_mul(8).saturating_add(256);
     let (text, well) = whole(heap, size, |out| put(heap, out, protocol, name))?;
-    let well = well?;
-    if well {
+    if well? {
         rt.write_all(text.as_slice())?;
-    } else {
-        rt.stderr().write_all(text.as_slice())?;
+        return Ok(ExitCode::SUCCESS);
     }
-    Ok(well)
+    rt.stderr().write_all(text.as_slice())?;
+    Ok(ExitCode::FAILURE)
 }
 
-fn run(rt: &HostRuntime) -> anyhow::Result<bool> {
+fn run(rt: &HostRuntime) -> anyhow::Result<ExitCode> {
     let words: Vec<String> = env::args(rt)?.skip(1).collect(rt.alloc())?;
     let (path, name) = match words.as_slice() {
         [path] => (path, None),
-        [path, option, name] if option.as_str() == "--find" => (path, Some(name)),
+        [path, option, name] if option.as_str() == "--find" => (path, Some(name.as_str())),
         _ => bail!(USAGE),
     };
     if path.as_str() == "--help" {
         println!(rt; "{USAGE}")?;
-        return Ok(true);
+        return Ok(ExitCode::SUCCESS);
     }
     let protocol = fs::read(rt, path.as_str()).context(format_args!("cannot read {path}"))?;
     tell(rt, protocol.as_slice(), name)

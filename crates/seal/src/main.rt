@@ -18,7 +18,7 @@ fn read(rt: &HostRuntime, path: &str) -> anyhow::Result<Vec<u8>> {
 }
 
 // Prints the seal, or on stderr why there is none.
-fn tell(rt: &HostRuntime, file: &[u8], party: u8, opening: &[u8]) -> anyhow::Result<bool> {
+fn tell(rt: &HostRuntime, file: &[u8], party: u8, opening: &[u8]) -> anyhow::Result<ExitCode> {
     let heap = rt.alloc();
     // No seals are kept.
     let mut room = Room::new(heap, 0)?;
@@ -28,19 +28,20 @@ fn tell(rt: &HostRuntime, file: &[u8], party: u8, opening: &[u8]) -> anyhow::Res
     let (last, read) = runs::run::run(start, file, &mut refusals)?;
     ensure!(read.is_ok(), "the file of steps ends inside a step");
     let (text, sealed) = whole(heap, 256, |out| put_seal(out, &last, party, opening))?;
-    match sealed {
-        Ok(()) => rt.write_all(text.as_slice())?,
-        Err(_) => rt.stderr().write_all(text.as_slice())?,
+    if sealed.is_ok() {
+        rt.write_all(text.as_slice())?;
+        return Ok(ExitCode::SUCCESS);
     }
-    Ok(sealed.is_ok())
+    rt.stderr().write_all(text.as_slice())?;
+    Ok(ExitCode::FAILURE)
 }
 
-fn run(rt: &HostRuntime) -> anyhow::Result<bool> {
+fn run(rt: &HostRuntime) -> anyhow::Result<ExitCode> {
     let words: Vec<String> = env::args(rt)?.skip(1).collect(rt.alloc())?;
     match words.as_slice() {
         [help] | [help, _, _] if help.as_str() == "--help" => {
             println!(rt; "{USAGE}")?;
-            Ok(true)
+            Ok(ExitCode::SUCCESS)
         }
         [steps, party, opening] => {
             let Ok(party) = party.as_str().parse::<u8>() else {

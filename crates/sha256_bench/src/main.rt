@@ -29,7 +29,7 @@ fn number(text: Option<String>, otherwise: u64) -> anyhow::Result<u64> {
     }
 }
 
-fn run(rt: &HostRuntime) -> anyhow::Result<bool> {
+fn run(rt: &HostRuntime) -> anyhow::Result<ExitCode> {
     let mut args = env::args(rt)?;
     let _program = args.next();
     let count = number(args.next(), 16)?;
@@ -38,7 +38,7 @@ fn run(rt: &HostRuntime) -> anyhow::Result<bool> {
     let mut message = [97u8; 8192];
     let hash = last_hash(&mut message[0..size as usize], count);
     println!(rt; "{}", hex::encode(rt.alloc(), hash)?)?;
-    Ok(true)
+    Ok(ExitCode::SUCCESS)
 }
 
 fn main(rt: HostRuntime) -> ExitCode {

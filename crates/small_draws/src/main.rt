@@ -1,4 +1,5 @@
-// Draws the order of a few names from every row of a few bits, and prints how many rows give each order and how many give none.
+// Draws the order of a few names from every row of a few bits, and prints how many rows give each order and how many
+// give none.
 #![tactic(auto)]
 
 ghost use Rattle.std.specs.Prelude.{◌<◌, ◌≤◌};
@@ -18,7 +19,8 @@ fn tally_of(order: &[u16]) -> usize
     number % TALLIES
 }
 
-// The rows of so many bits, each at the end of as few bytes as hold it. Tallies those that give an order, and gives the number of the others.
+// The rows of so many bits, each at the end of as few bytes as hold it. Tallies those that give an order, and gives the
+// number of the others.
 fn count_rows(names: usize, bits: u32, tallies: &mut [u32; TALLIES]) -> u32
     requires few { names ≤ 5 }
     requires short { bits ≤ 16 }

@@ -88,7 +88,7 @@ fn write_steps(rt: &HostRuntime, text: &str, path: &str) -> anyhow::Result<()> {
     save(rt, path, steps.as_slice())
 }
 
-fn run(rt: &HostRuntime) -> anyhow::Result<bool> {
+fn run(rt: &HostRuntime) -> anyhow::Result<ExitCode> {
     let words: Vec<String> = env::args(rt)?.skip(1).collect(rt.alloc())?;
     match words.as_slice() {
         [help] | [help, _] if help.as_str() == "--help" => println!(rt; "{USAGE}")?,
@@ -96,7 +96,7 @@ fn run(rt: &HostRuntime) -> anyhow::Result<bool> {
         [text, steps] => write_steps(rt, text.as_str(), steps.as_str())?,
         _ => bail!(USAGE),
     }
-    Ok(true)
+    Ok(ExitCode::SUCCESS)
 }
 
 fn main(rt: HostRuntime) -> ExitCode {

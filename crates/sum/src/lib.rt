@@ -6,7 +6,8 @@ ghost use Rattle.std.specs.Prelude.{◌≡◌};
 ghost use Rattle.sum.specs.Laws.{AnyOrder, OneMore};
 ghost use Rattle.sum.specs.Sums.{xor_bytes};
 
-// Adds a row to the sum in place. What has no partner in the other stays, or is passed over.
+// Adds a row to the sum in place. What has no partner in the other stays, or is passed over. The row is read by its index:
+// of a zip over bytes that are changed the library promises their number alone.
 pub fn add(sum: &mut [u8], row: &[u8])
     ensures after { sum.new ≡ xor_bytes sum.old row.now }
     ensures more { OneMore sum.old row.now sum.new }

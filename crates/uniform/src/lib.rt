@@ -1,6 +1,6 @@
-// Numbers below n drawn from the bits of bytes, with none favoured.
-// Bits are read byte by byte, the highest of a byte first. With w the least number with n at most 2^w, w bits are read as a number, the first
-// one the highest; a number not below n is thrown away, and w bits are read again.
+// Numbers below n drawn from the bits of bytes, with none favoured. Bits are read byte by byte, the highest of a byte
+// first. With w the least number with n at most 2^w, w bits are read as a number, the first one the highest; a number
+// not below n is thrown away, and w bits are read again.
 #![tactic(auto)]
 
 ghost use Rattle.std.specs.Prelude.{◌≡◌, ◌+◌, ◌-◌, ◌*◌, ◌^◌, ◌<◌, ◌≤◌, length, drop, IfSome, IsNone, MatchOption};
