@@ -1,3 +1,4 @@
 pub mod Rows
 pub mod Place
 pub mod Entry
+pub mod Lists

@@ -10,7 +10,8 @@ ghost use Rattle.std.proofs.Math.Seq.{paste};
 ghost use Rattle.refusals.specs.Answers.{done, number_or};
 ghost use Rattle.entries.specs.Rows.{name_in, packed, packed_rows, list_hash};
 ghost use Rattle.entries.specs.Place.{place, place_for};
-ghost use Rattle.entries.specs.Entry.{slot_for, inserted_number, entered};
+ghost use Rattle.entries.specs.Entry.{slot_for, inserted_number};
+ghost use Rattle.entries.specs.Lists.{names_listed, entered_list};
 ghost use Rattle.sha256.specs.Sha256.{sha256};
 
 use parts::{byte_at, part};
@@ -22,9 +23,17 @@ pub const MOST_NAMES: u16 = 2000;
 
 pub const LONGEST_NAME: usize = 64;
 
-pub const SLOT: usize = 65;
+pub const SLOT: usize = 1 + LONGEST_NAME;
 
-// The list of names, in memory that is lent to it.
+// The list of names, in memory that is only read.
+#[derive(Clone, Copy, Debug)]
+pub struct Names<'a> {
+    pub slots: &'a [u8],
+    pub index: &'a [u16],
+    pub count: u16,
+}
+
+// The list of names, in memory that is lent to it for more.
 #[derive(Drop)]
 pub struct NameList<'a> {
     pub slots: &'a mut [u8],
@@ -97,13 +106,19 @@ fn hash_names(slots: &[u8], numbers: &[u16]) -> [u8; 32]
     hasher.finish()
 }
 
-impl NameList<'_> {
+impl<'a> Names<'a> {
+    // How many names are listed.
+    pub fn len(&self) -> u16
+        ensures { result ≡ length (names_listed self.now) }
+    {
+        self.index.len().min(self.count as usize) as u16
+    }
+
     // The slots' numbers in the order of the list.
-    fn numbers(&self) -> &[u16]
+    fn numbers(&self) -> &'a [u16]
         ensures { result.now ≡ take self.now.count self.now.index.now }
     {
-        let kept = self.index.len().min(self.count as usize);
-        &self.index[..kept]
+        &self.index[..self.len() as usize]
     }
 
     // The place at which a new name goes into the list, or why it is refused.
@@ -119,6 +134,39 @@ impl NameList<'_> {
             return Err(Refusal::NameTaken);
         }
         find(self.slots, self.numbers(), name).ok_or(Refusal::NameTaken)
+    }
+
+    // Name number `number` of the list, as a part of the bytes; none of that number is no bytes.
+    pub fn name(&self, number: u16) -> &'a [u8]
+        ensures is { result.now ≡ slice_index_or (map (name_in self.now.slots.now) self.now.index.now) number [] }
+        ensures short { length result.now < 256 }
+    {
+        match self.index.get(number as usize) {
+            Some(slot) => name_in(self.slots, *slot),
+            None => &self.slots[..0],
+        }
+    }
+
+    // The hash of the list.
+    pub fn hash(&self) -> [u8; 32]
+        ensures { result ≡ list_hash self.now.slots.now self.now.index.now self.now.count }
+    {
+        hash_names(self.slots, self.numbers())
+    }
+}
+
+impl NameList<'_> {
+    // The list to be read.
+    pub fn names(&self) -> Names<'_>
+        ensures slots { result.slots.now ≡ self.now.slots.now }
+        ensures index { result.index.now ≡ self.now.index.now }
+        ensures count { result.count ≡ self.now.count }
+    {
+        Names {
+            slots: self.slots,
+            index: self.index,
+            count: self.count,
+        }
     }
 
     // Where the next slot begins, if there is room for it and its number.
@@ -137,34 +185,16 @@ impl NameList<'_> {
     pub fn enter(&mut self, name: &[u8]) -> Result<(), Refusal>
         ensures same_slots { self.new.slots.ghost_name ≡ self.old.slots.ghost_name }
         ensures same_index { self.new.index.ghost_name ≡ self.old.index.ghost_name }
-        ensures answer { result ≡ done (entered self.old.slots.now self.old.index.now self.old.count name.now).answer }
-        ensures count { self.new.count ≡ number_or (entered self.old.slots.now self.old.index.now self.old.count name.now).answer self.old.count }
-        ensures slots { self.new.slots.now ≡ (entered self.old.slots.now self.old.index.now self.old.count name.now).slots }
-        ensures index { self.new.index.now ≡ (entered self.old.slots.now self.old.index.now self.old.count name.now).index }
+        ensures answer { result ≡ done (entered_list self.old name.now).answer }
+        ensures count { self.new.count ≡ number_or (entered_list self.old name.now).answer self.old.count }
+        ensures slots { self.new.slots.now ≡ (entered_list self.old name.now).slots }
+        ensures index { self.new.index.now ≡ (entered_list self.old name.now).index }
     {
-        let at = self.place_for(name)?;
+        let at = self.names().place_for(name)?;
         let slot = self.next_slot().ok_or(Refusal::NoRoom(Lent::List))?;
         write_name(self.slots, slot, name);
         insert_number(self.index, self.count, at);
         self.count += 1;
         Ok(())
-    }
-
-    // Name number `number` of the list, as a part of the bytes; none of that number is no bytes.
-    pub fn name(&self, number: u16) -> &[u8]
-        ensures is { result.now ≡ slice_index_or (map (name_in self.now.slots.now) self.now.index.now) number [] }
-        ensures short { length result.now < 256 }
-    {
-        match self.index.get(number as usize) {
-            Some(slot) => name_in(self.slots, *slot),
-            None => &self.slots[..0],
-        }
-    }
-
-    // The hash of the list.
-    pub fn hash(&self) -> [u8; 32]
-        ensures { result ≡ list_hash self.now.slots.now self.now.index.now self.now.count }
-    {
-        hash_names(self.slots, self.numbers())
     }
 }

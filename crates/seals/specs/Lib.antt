@@ -1,3 +1,4 @@
 pub mod Seal
 pub mod Records
 pub mod Steps
+pub mod Taken

@@ -5,13 +5,13 @@ use Rattle.std.proofs.lemmas.Iterator.Consumers.{count_from_yields_List, YieldsL
 use Rattle.std.proofs.lemmas.List.Sums.{length-filter}
 use Rattle.seals.specs.Records.{has_opened}
 use Rattle.seals.proofs.Counted.{counted}
-use Rattle.seals.proofs.Parties.opened_count.Goals as goal
+use Rattle.seals.proofs.Records.opened_count.Goals as goal
 
 pub returns-clause-is : goal.returns-clause-is
 returns-clause-is c =
-    let parties = c.args.self.now in
-    let opened = has_opened parties.records.now parties.length in
-    let e : c.count.result ≡ length (filter opened (range_with_len 0 parties.count)) =
+    let records = c.args.self.now in
+    let opened = has_opened records.bytes.now records.length in
+    let e : c.count.result ≡ length (filter opened (range_with_len 0 records.count)) =
     count_from_yields_List c.filter.result _ c.count.ensures.ran
-    (YieldsList-from_filter _ opened (YieldsList-from_range 0 parties.count parties.count (cc) (omega arith)) c.filter.ensures.closure (λ x r q k. search (rules, tests))) in
-    e ∙ length-filter opened (range_with_len 0 parties.count) ∙ counted parties.records.now parties.length parties.count
+    (YieldsList-from_filter _ opened (YieldsList-from_range 0 records.count records.count (cc) (omega arith)) c.filter.ensures.closure (λ x r q k. search (rules, tests))) in
+    e ∙ length-filter opened (range_with_len 0 records.count) ∙ counted records.bytes.now records.length records.count
