@@ -1,5 +1,7 @@
 pub mod Pairs
 pub mod Parts
+pub mod Ends
+pub mod Named
 pub mod Digits
 pub mod Turns
 pub mod WholeRead

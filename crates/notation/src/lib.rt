@@ -23,7 +23,7 @@ ghost use Rattle.notation.specs.Shown.{text_of, ShowsWhole};
 ghost use Rattle.step_file.specs.File.{file_cut};
 
 pub use faults::{BadLine, Fault, put_bad_line};
-pub use paths::Paths;
+pub use paths::{NamedFile, Paths};
 
 mod faults;
 mod forms;

@@ -1,51 +1,70 @@
 // The lines of a text that name a file.
-ghost use Rattle.std.specs.Prelude.{◌≡◌, option_copied};
-ghost use Rattle.notation.specs.Left.{paths_left};
-ghost use Rattle.notation.specs.Paths.{path_of, paths};
+ghost use Rattle.std.specs.Prelude.{◌≡◌, length, option_copied};
+ghost use Rattle.notation.specs.Left.{named_left};
+ghost use Rattle.notation.specs.Paths.{path_of, named_at, NamedThere};
 
-use crate::lines::{Lines, without_return};
+use crate::lines::{split_once, without_return};
 use crate::parsed::{Parsed, parse};
 
-// The path that a line names.
+// A file that a line names: its path, the places in the text where the path begins and ends, and the place behind the line.
+#[derive(Clone, Copy, Debug)]
+pub struct NamedFile<'a> {
+    pub path: &'a [u8],
+    pub start: usize,
+    pub end: usize,
+    pub next: usize,
+}
+
+// The path that a line without its carriage return names.
 fn path_of(line: &[u8]) -> Option<&[u8]>
     ensures { option_copied result ≡ path_of line.now }
 {
-    match parse(without_return(line)) {
+    match parse(line) {
         Ok(Parsed::File { party: _, path }) => Some(path),
         _ => None,
     }
 }
 
-// The paths of the files that the lines of a text name, one after another.
+// The files that the lines of a text name, one after another, from a place on, at which a line begins.
 #[derive(Clone, Copy, Debug)]
 pub struct Paths<'a> {
-    lines: Lines<'a>,
+    pub text: &'a [u8],
+    pub at: usize,
 }
 
 impl<'a> Paths<'a> {
     pub fn new(text: &'a [u8]) -> Paths<'a>
-        ensures { paths_left result ≡ paths text.now }
+        ensures is { named_left result ≡ named_at text.now 0 }
+        ensures there { NamedThere text.now }
     {
-        Paths {
-            lines: Lines { rest: text },
-        }
+        Paths { text, at: 0 }
     }
 }
 
 impl<'a> Iterator for Paths<'a> {
-    ghost use Rattle.std.specs.Iterator.{YieldsFirstRef, item_count};
-    ghost use Rattle.notation.specs.Left.{paths_left};
+    ghost use Rattle.std.specs.Iterator.{YieldsFirstBy, item_count};
+    ghost use Rattle.notation.specs.Left.{named_of, named_left};
 
-    type Item = &'a [u8];
+    type Item = NamedFile<'a>;
 
-    ghost next_gives = { YieldsFirstRef paths_left };
+    ghost next_gives = { YieldsFirstBy named_of named_left };
 
-    ghost remaining = { item_count paths_left };
+    ghost remaining = { item_count named_left };
 
-    fn next(&mut self) -> Option<&'a [u8]> {
-        while let Some(line) = self.lines.next() {
+    fn next(&mut self) -> Option<NamedFile<'a>> {
+        while self.at < self.text.len() {
+            let at = self.at;
+            let (whole, _) = split_once(&self.text[at..], b'\n');
+            let line = without_return(whole);
+            self.at = at + (whole.len() + 1);
             if let Some(path) = path_of(line) {
-                return Some(path);
+                let end = at + line.len();
+                return Some(NamedFile {
+                    path,
+                    start: end.saturating_sub(path.len()),
+                    end,
+                    next: self.at,
+                });
             }
         }
         None

@@ -51,8 +51,8 @@ fn path_of(bytes: &[u8]) -> anyhow::Result<&str> {
 // The contents of the files that the lines name, one after another.
 fn contents(rt: &HostRuntime, text: &[u8]) -> anyhow::Result<Vec<u8>> {
     let mut files = Vec::new(rt.alloc());
-    for path in Paths::new(text) {
-        let file = read_file(rt, path_of(path)?)?;
+    for named in Paths::new(text) {
+        let file = read_file(rt, path_of(named.path)?)?;
         add_contents(&mut files, file.as_slice())?;
     }
     Ok(files)

@@ -1,9 +1,9 @@
-use Rattle.std.proofs.Common.{◌≡◌, length}
-use Rattle.notation.specs.Left.{paths_left}
+use Rattle.std.proofs.Common.{◌≡◌, ◌-◌, length}
+use Rattle.notation.specs.Left.{named_left}
 use Rattle.notation.proofs.paths.PathsIterator.next.Given as goal
 
-abbrev pub invariant-loop-line : goal.invariant-loop-line
-invariant-loop-line l = paths_left l.self ≡ paths_left l.fn.self
+abbrev pub invariant-loop-self : goal.invariant-loop-self
+invariant-loop-self l = named_left l.self ≡ named_left l.fn.self
 
-abbrev pub decreases-loop-line : goal.decreases-loop-line
-decreases-loop-line l = length l.self.lines.rest.now
+abbrev pub decreases-loop-self : goal.decreases-loop-self
+decreases-loop-self l = length l.self.text.now - l.self.at
