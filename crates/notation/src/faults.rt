@@ -1,7 +1,7 @@
 // What can be wrong with a line.
 ghost use Rattle.std.specs.Prelude.{◌≡◌, Some};
 ghost use Rattle.notation.specs.Faults.{number_of, sentence, bad_line};
-ghost use Rattle.output.specs.Output.{put};
+ghost use Rattle.output.specs.Writes.{Writes};
 
 use output::Output;
 use std::error::Error;
@@ -78,14 +78,12 @@ impl fmt::Display for BadLine {
 
 impl Error for BadLine {}
 
-// Writes a bad line in words, as `line 3: a seal has 64 hex digits`. Unlike printing it, this cannot fail.
-pub fn put_bad_line(out: &mut [u8], at: usize, bad: BadLine) -> usize
-    ensures { (out.new, result) ≡ put (out.old, at) (bad_line bad) }
+// Writes a bad line in words, as `line 3: a seal has 64 hex digits`. It stands beside Display because it cannot fail.
+pub fn put_bad_line(out: &mut Output, bad: BadLine)
+    ensures { Writes out.old out.new (bad_line bad) }
 {
-    let mut output = Output { memory: out, at };
-    output.put(b"line ");
-    output.put_decimal(bad.line);
-    output.put(b": ");
-    output.put(bad.fault.words().as_bytes());
-    output.at
+    out.put(b"line ");
+    out.put_decimal(bad.line);
+    out.put(b": ");
+    out.put(bad.fault.words().as_bytes());
 }

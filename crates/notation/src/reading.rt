@@ -38,8 +38,7 @@ fn put_line<'a>(line: &'a [u8], files: &mut Steps<'a>, out: &mut Output) -> Resu
         Parsed::Step(told) => told.put(out),
         Parsed::File { party, path: _ } => match files.next() {
             Some(Ok(file)) => from_file(party, file.bytes)?.put(out),
-            Some(Err(_)) => Err(Fault::NoFile),
-            None => Err(Fault::NoFile),
+            Some(Err(_)) | None => Err(Fault::NoFile),
         },
     }
 }

@@ -30,42 +30,41 @@ fn form_if(fits: bool, form: Form) -> Form
 }
 
 // The form that shows a step.
-fn form_to_show(kind: u8, bytes: &[u8]) -> Form
-    ensures { result ≡ form_shown kind bytes.now }
+fn form_to_show(step: Step) -> Form
+    ensures { result ≡ form_shown step.entry.kind step.entry.bytes.now }
 {
-    match Kind::try_from(kind) {
-        Ok(Kind::Entry) => entry_form(bytes),
-        Ok(Kind::CloseList) => form_if(bytes.len() == 2, Form::CloseList),
-        Ok(Kind::Seal) => form_if(bytes.len() == 32, Form::Seal),
-        Ok(Kind::CloseSeals) => form_if(bytes.is_empty(), Form::CloseSeals),
-        Ok(Kind::Opening) => form_if(1 < bytes.len(), Form::Opening),
-        Ok(Kind::Close) => form_if(bytes.is_empty(), Form::Close),
+    match Kind::try_from(step.kind) {
+        Ok(Kind::Entry) => entry_form(step.bytes),
+        Ok(Kind::CloseList) => form_if(step.bytes.len() == 2, Form::CloseList),
+        Ok(Kind::Seal) => form_if(step.bytes.len() == 32, Form::Seal),
+        Ok(Kind::CloseSeals) => form_if(step.bytes.is_empty(), Form::CloseSeals),
+        Ok(Kind::Opening) => form_if(1 < step.bytes.len(), Form::Opening),
+        Ok(Kind::Close) => form_if(step.bytes.is_empty(), Form::Close),
         Err(_) => Form::StepHex,
     }
 }
 
 // What stands behind the words of a form.
-fn put_rest(out: &mut Output, form: Form, kind: u8, bytes: &[u8])
-    ensures { Writes out.old out.new (rest_shown form kind bytes.now) }
+fn put_rest(out: &mut Output, form: Form, step: Step)
+    ensures { Writes out.old out.new (rest_shown form step.entry.kind step.entry.bytes.now) }
 {
     match form {
-        Form::Entry => out.put(bytes),
-        Form::EntryHex | Form::Seal => out.put_hex(bytes),
+        Form::Entry => out.put(step.bytes),
+        Form::EntryHex | Form::Seal => out.put_hex(step.bytes),
         Form::CloseList => {
-            let number = u16::from_le_bytes([byte_at(bytes, 0), byte_at(bytes, 1)]);
-            out.put_decimal(usize::from(number));
+            let number = u16::from_le_bytes([byte_at(step.bytes, 0), byte_at(step.bytes, 1)]);
+            out.put_decimal(number);
         }
         Form::Opening => {
-            out.put_decimal(usize::from(byte_at(bytes, 0)));
+            out.put_decimal(byte_at(step.bytes, 0));
             out.put_byte(b' ');
-            out.put_hex(behind(bytes, 1));
+            out.put_hex(behind(step.bytes, 1));
         }
         Form::StepHex => {
-            out.put_hex(&[kind]);
-            out.put_hex(bytes);
+            out.put_hex(&[step.kind]);
+            out.put_hex(step.bytes);
         }
-        Form::CloseSeals => (),
-        Form::Close => (),
+        Form::CloseSeals | Form::Close => (),
     }
 }
 
@@ -73,9 +72,9 @@ fn put_rest(out: &mut Output, form: Form, kind: u8, bytes: &[u8])
 fn put_line(out: &mut Output, step: Step)
     ensures { Writes out.old out.new (line_shown (step.entry.kind, step.entry.bytes.now)) }
 {
-    let form = form_to_show(step.kind, step.bytes);
+    let form = form_to_show(step);
     out.put(form.words());
-    put_rest(out, form, step.kind, step.bytes);
+    put_rest(out, form, step);
     out.put_byte(b'\n');
 }
 

@@ -61,10 +61,8 @@ impl Told<'_> {
     {
         if let Some(party) = self.party {
             out.put_byte(party);
-            self.body.put(out);
-        } else {
-            self.body.put(out);
         }
+        self.body.put(out);
     }
 
     // Writes the step, unless it is too long.

@@ -13,6 +13,7 @@ use std::fmt;
 
 #[derive(Clone, Copy, Debug, PartialEq, Eq)]
 pub struct Step<'a> {
+    // the byte as it stands: a file may hold kinds that no step has
     pub kind: u8,
     pub bytes: &'a [u8],
 }

@@ -5,6 +5,4 @@ use Rattle.notation.proofs.faults.put_bad_line.Goals as goal
 pub returns : goal.returns
 returns c =
     let all = writes_then c.put.ensures (writes_then c.put_decimal.ensures (writes_then c.put-2.ensures c.put-3.ensures)) in
-    let same = all.same in
-    let written = all.written in
     search rules

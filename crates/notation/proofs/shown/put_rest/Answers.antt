@@ -7,10 +7,7 @@ pub returns-in-Opening : goal.returns-in-Opening
 returns-in-Opening c = let w = writes_then c.put_decimal-in-Opening.ensures (writes_then c.put_byte.ensures c.put_hex-in-Opening.ensures) in search rules
 
 pub returns-in-StepHex : goal.returns-in-StepHex
-returns-in-StepHex c = let w = writes_as (sym (hex_append (c.args.kind ∷ []) c.args.bytes.now)) (writes_then c.put_hex-in-StepHex.ensures c.put_hex-in-StepHex-2.ensures) in search rules
+returns-in-StepHex c = let w = writes_as (sym (hex_append (c.args.step.kind ∷ []) c.args.step.bytes.now)) (writes_then c.put_hex-in-StepHex.ensures c.put_hex-in-StepHex-2.ensures) in search rules
 
 pub returns-in-CloseSeals : goal.returns-in-CloseSeals
-returns-in-CloseSeals c = rw c.in-CloseSeals.is (writes_none c.args.out.now)
-
-pub returns-in-Close : goal.returns-in-Close
-returns-in-Close c = rw c.in-Close.is (writes_none c.args.out.now)
+returns-in-CloseSeals c = let w = writes_none c.args.out.now in search rules
