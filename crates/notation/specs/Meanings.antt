@@ -1,5 +1,5 @@
 -- What a line means. Assumes nothing.
-use Rattle.std.specs.Prelude.{ℕ, ◌/◌, ◌%◌, cond, ◌||◌, ◌&&◌, List, [], ◌∷◌, length, drop, codes, Some, None, Option, Ok, Err, Result, ◌==◌, nat_lt}
+use Rattle.std.specs.Prelude.{ℕ, cond, ◌||◌, ◌&&◌, List, [], ◌∷◌, length, drop, codes, Some, None, Option, Ok, Err, Result, ◌==◌, nat_lt}
 use Rattle.std.specs.List.{before_first, after_first}
 use Rattle.notation.specs.declared.faults.Fault.{Fault}
 use Rattle.notation.specs.declared.faults.Fault.TheVariants.{NoForm, NoName, NoDigits, NoSeal, NoList, NoParty, NoOpening, NoKind}
@@ -11,7 +11,7 @@ use Rattle.notation.specs.declared.step.Told.{Told}
 use Rattle.notation.specs.Forms.{words, begins, form_of}
 use Rattle.notation.specs.Hex.{are_pairs, all_digits, bytes_of}
 use Rattle.notation.specs.Lines.{is_blank}
-use Rattle.notation.specs.Numbers.{number}
+use Rattle.notation.specs.Numbers.{number, two_bytes}
 use Rattle.notation.specs.Steps.{step_told}
 
 -- nothing; a step by its kind and its bytes; an opening of a party with the path of the file that has its bytes; no line
@@ -45,10 +45,10 @@ entry name = cond (length name == 0) (bad NoName) (step 1 name)
 abbrev pub entry_hex : List ℕ → Meaning
 entry_hex ds = cond (length ds == 0) (bad NoName) (hex_step 1 ds)
 
--- close list L, as two bytes, low byte first
+-- close list L
 abbrev pub close_list : Option ℕ → Meaning
 close_list None = bad NoList
-close_list (Some n) = step 2 (n % 256 ∷ n / 256 ∷ [])
+close_list (Some n) = step 2 (two_bytes n)
 
 -- seal HEX
 abbrev pub seal : List ℕ → Meaning

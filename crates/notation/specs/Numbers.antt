@@ -1,5 +1,5 @@
--- Decimal numbers read. Assumes nothing.
-use Rattle.std.specs.Prelude.{ℕ, ◌+◌, ◌-◌, ◌*◌, cond, ◌&&◌, List, [], ◌∷◌, Some, None, Option, option_and_then, nat_lt}
+-- Decimal numbers read, and numbers as bytes. Assumes nothing.
+use Rattle.std.specs.Prelude.{ℕ, ◌+◌, ◌-◌, ◌*◌, ◌/◌, ◌%◌, cond, ◌&&◌, List, [], ◌∷◌, Some, None, Option, option_and_then, nat_lt}
 use Rattle.std.specs.Char.{is_ascii_digit}
 
 -- one digit more, if the number stays below 65536
@@ -14,3 +14,7 @@ number_from n (c ∷ cs) = option_and_then (λ m. number_from m cs) (digit_more 
 abbrev pub number : List ℕ → Option ℕ
 number [] = None
 number (c ∷ cs) = number_from 0 (c ∷ cs)
+
+-- a number below 65536 as two bytes, low byte first
+abbrev pub two_bytes : ℕ → List ℕ
+two_bytes n = n % 256 ∷ n / 256 ∷ []

@@ -1,5 +1,5 @@
 -- The bytes of a step that a line says. Assumes nothing.
-use Rattle.std.specs.Prelude.{◌≡◌, ℕ, ◌/◌, ◌%◌, ◌<◌, ◌≤◌, List, [], ◌∷◌, ◌++◌, length, Some, None, Option, Result, MatchResult}
+use Rattle.std.specs.Prelude.{◌≡◌, ℕ, ◌<◌, ◌≤◌, List, [], ◌∷◌, ◌++◌, length, Some, None, Option, Result, MatchResult}
 use Rattle.output.specs.Writes.{Writes}
 use Rattle.output.specs.declared.Output.{Output}
 use Rattle.step_file.specs.File.{step_bytes}
@@ -9,11 +9,12 @@ use Rattle.notation.specs.declared.step.Body.{Body}
 use Rattle.notation.specs.declared.step.Body.TheVariants.{Bytes, Digits, Number}
 use Rattle.notation.specs.declared.step.Told.{Told}
 use Rattle.notation.specs.Hex.{bytes_of}
+use Rattle.notation.specs.Numbers.{two_bytes}
 
 abbrev pub body_bytes : Body → List ℕ
 body_bytes (Bytes bytes) = bytes.now
 body_bytes (Digits digits) = bytes_of digits.now
-body_bytes (Number n) = n % 256 ∷ n / 256 ∷ []
+body_bytes (Number n) = two_bytes n
 
 abbrev pub party_bytes : Option ℕ → List ℕ
 party_bytes None = []

@@ -11,6 +11,7 @@ fn digit_more(number: u16, digit: u8) -> Option<u16>
 }
 
 // The number below 65536 that digits write.
+// By a `for`: the library's parse takes a plus sign too, and no lemma of the library says what a try_fold gives.
 pub(crate) fn number_of(digits: &[u8]) -> Option<u16>
     ensures { result ≡ number digits.now }
 {
