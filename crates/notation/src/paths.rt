@@ -1,5 +1,5 @@
 // The lines of a text that name a file.
-ghost use Rattle.std.specs.Prelude.{◌≡◌, length, option_copied};
+ghost use Rattle.std.specs.Prelude.{◌≡◌, option_copied};
 ghost use Rattle.notation.specs.Left.{named_left};
 ghost use Rattle.notation.specs.Paths.{path_of, named_at, NamedThere};
 
