@@ -8,7 +8,7 @@ use Rattle.std.proofs.lemmas.List.{flat_map_more, map-append}
 use Rattle.sum.specs.Sums.{sum_from, xor_bytes}
 use Rattle.protocol.specs.Layout.{opened_in, party_of}
 use Rattle.protocol.specs.Protocol.{Party, openings}
-use Rattle.protocol.specs.Walk.{parties_between}
+use Rattle.protocol.specs.Walk.{numbers_between}
 use Rattle.protocol.proofs.Turns.{turns}
 
 -- rows added after others
@@ -47,8 +47,8 @@ module _ (bytes : List ℕ) where
   counted_from a zero = refl
   counted_from a (suc n) = counted_more (opened_in bytes a) _ (bytes, a) _ _ (counted_from (a + 1) n)
 
-  pub opened_filter : (n : ℕ) → length (filter opens (parties_between bytes 0 n)) ≡ length (openings (map (party_of bytes) (range_with_len 0 n)))
+  pub opened_filter : (n : ℕ) → length (filter opens (numbers_between bytes 0 n)) ≡ length (openings (map (party_of bytes) (range_with_len 0 n)))
   opened_filter n = counted_from 0 (n - 0) ∙ ap (λ (m : ℕ). length (openings (map (party_of bytes) (range_with_len 0 m)))) (let z : n - 0 ≡ n = omega arith in z)
 
-  pub few_opened : (n : ℕ) → length (filter opens (parties_between bytes 0 n)) ≤ n
-  few_opened n = omega (arith, length-filter opens (parties_between bytes 0 n), count_by-le-length opens (parties_between bytes 0 n), turns bytes n)
+  pub few_opened : (n : ℕ) → length (filter opens (numbers_between bytes 0 n)) ≤ n
+  few_opened n = omega (arith, length-filter opens (numbers_between bytes 0 n), count_by-le-length opens (numbers_between bytes 0 n), turns bytes n)

@@ -1,4 +1,4 @@
--- A walk over the parties: which comes next, and what is found. Assumes nothing.
+-- A walk over the names, or over the parties: which comes next, and what is found. Assumes nothing.
 use Rattle.std.proofs.Common.{◌≡◌, ℕ, ◌+◌, ◌-◌, ◌<◌, List, map, length, Some, None, Option, ap, ◌∙◌, arith}
 use Rattle.std.specs.Iterator.{Yields, YieldsFirstBy}
 use Rattle.std.specs.List.{range_with_len}
@@ -7,30 +7,28 @@ use Rattle.std.proofs.lemmas.Iterator.Consumers.{YieldsList-from_first, YieldsLi
 use Rattle.std.proofs.lemmas.List.FromFn.{length-map-range_with_len, get_or-map-range_with_len}
 use Rattle.refusals.specs.declared.Refusal.{Refusal}
 use Rattle.protocol.specs.Check.{first_of}
-use Rattle.protocol.specs.Walk.{numbered, parties_between, parties_left}
-use Rattle.protocol.specs.declared.parties.Party.{Party}
-use Rattle.protocol.specs.declared.parties.Parties.{Parties}
+use Rattle.protocol.specs.Walk.{numbers_between}
 use Rattle.protocol.proofs.Firsts.{refused_first, passed_on}
 
 module _ (bytes : List ℕ) (n : ℕ) where
   abbrev at : ℕ → List ℕ × ℕ
   at k = (bytes, k)
 
-  pub turns : length (parties_between bytes 0 n) ≡ n
+  pub turns : length (numbers_between bytes 0 n) ≡ n
   turns = let e : length (map at (range_with_len 0 (n - 0))) ≡ n - 0 = length-map-range_with_len at 0 (n - 0) in omega (arith, e)
 
-  module _ (s : Parties) (all : parties_left s ≡ parties_between bytes 0 n) (seen : List Party) (t : Parties) (so_far : Yields (YieldsFirstBy numbered parties_left) s seen t)
-      (r : Option Party) (u : Parties) (step : YieldsFirstBy numbered parties_left t r u) where
-    pub turn_is : (p : Party) → r ≡ Some p → (length seen < n) × (numbered p ≡ (bytes, length seen))
+  module _ {S X : Type 0} (numbered : X → List ℕ × ℕ) (left : S → List (List ℕ × ℕ)) (s : S) (all : left s ≡ numbers_between bytes 0 n) (seen : List X) (t : S) (so_far : Yields (YieldsFirstBy numbered left) s seen t)
+      (r : Option X) (u : S) (step : YieldsFirstBy numbered left t r u) where
+    pub turn_is : (p : X) → r ≡ Some p → (length seen < n) × (numbered p ≡ (bytes, length seen))
     turn_is p e =
-        let h = YieldsList-turn (YieldsList-from_first numbered parties_left _ all) seen t so_far r u p e step in
+        let h = YieldsList-turn (YieldsList-from_first numbered left _ all) seen t so_far r u p e step in
         let k = length seen in
         (omega (arith, h.0, turns), h.1 ∙ get_or-map-range_with_len at 0 (n - 0) k k (numbered p) (omega (arith, h.0, turns)) (omega arith))
 
     pub turns_end : r ≡ None → length seen ≡ n
-    turns_end e = (YieldsList-end (YieldsList-from_first numbered parties_left _ all) seen t so_far r u e step).1 ∙ turns
+    turns_end e = (YieldsList-end (YieldsList-from_first numbered left _ all) seen t so_far r u e step).1 ∙ turns
 
-  -- the first fault of a party, as the refusal that is answered
+  -- the first fault of one, as the refusal that is answered
   module _ (fault : List ℕ → ℕ → Option ℕ) (why : ℕ → Refusal) (k : ℕ) (p : List ℕ × ℕ) (turn : (k < n) × (p ≡ (bytes, k))) (none : first_of (fault bytes) k ≡ None) where
     here : option_map why (fault p.0 p.1) ≡ option_map why (fault bytes k)
     here = ap (λ (q : List ℕ × ℕ). option_map why (fault q.0 q.1)) turn.1

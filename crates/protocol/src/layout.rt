@@ -2,14 +2,14 @@
 ghost use Rattle.std.specs.Prelude.{◌≡◌, ◌+◌, ◌^◌, ◌<◌, ◌≤◌};
 ghost use Rattle.protocol.specs.Check.{shape_fault, hash_of};
 ghost use Rattle.protocol.specs.Laid.{LaidOut};
-ghost use Rattle.protocol.specs.Layout.{bits_length, party_count, size};
-ghost use Rattle.protocol.specs.Walk.{parties_between, parties_left};
+ghost use Rattle.protocol.specs.Layout.{bits_length, name_count, party_count, size};
+ghost use Rattle.protocol.specs.Walk.{names_left, numbers_between, parties_left};
 ghost use Rattle.std.specs.Option.{option_map};
 ghost use Rattle.std.specs.Result.{result_err};
 ghost use Rattle.refusals.specs.declared.Refusal.TheVariants.{ProtocolLength};
 
-use crate::names::Name;
-use crate::parties::{Parties, Party};
+use crate::names::{EachName, Name};
+use crate::parties::{EachParty, Party};
 use crate::words::word_at;
 use parts::{byte_at, part};
 use refusals::Refusal;
@@ -20,12 +20,12 @@ use refusals::Refusal;
 #[derive(Clone, Copy)]
 pub(crate) struct Layout<'a> {
     pub bytes: &'a [u8],
-    pub names: u16,
+    pub name_count: u16,
     pub length_at: usize,
-    pub parties: u8,
+    pub party_count: u8,
     pub first: Party<'a>,
     pub order_at: usize,
-    ghost laid_out: { LaidOut bytes.now names length_at parties order_at },
+    ghost laid_out: { LaidOut bytes.now name_count length_at party_count order_at },
     ghost same_bytes: { first.bytes.now ≡ bytes.now },
     ghost at_first: { first.number ≡ 0 },
 }
@@ -35,9 +35,9 @@ impl<'a> Layout<'a> {
     pub(crate) fn of(bytes: &'a [u8]) -> Layout<'a>
         ensures { result.bytes.now ≡ bytes.now }
     {
-        let names = word_at(bytes, 0);
-        let length_at = Name::of(bytes, names).at;
-        let parties = byte_at(bytes, length_at + 2);
+        let name_count = word_at(bytes, 0);
+        let length_at = Name::of(bytes, name_count).at;
+        let party_count = byte_at(bytes, length_at + 2);
         let first = Party {
             bytes,
             length: word_at(bytes, length_at),
@@ -46,11 +46,11 @@ impl<'a> Layout<'a> {
         };
         Layout {
             bytes,
-            names,
+            name_count,
             length_at,
-            parties,
+            party_count,
             first,
-            order_at: first.further(parties).at,
+            order_at: first.further(party_count).at,
         }
     }
 
@@ -69,12 +69,21 @@ impl<'a> Layout<'a> {
         self.first.further(number)
     }
 
-    pub(crate) fn each_party(&self) -> Parties<'a>
-        ensures { parties_left result ≡ parties_between self.now.bytes.now 0 (party_count self.now.bytes.now) }
+    pub(crate) fn each_name(&self) -> EachName<'a>
+        ensures { names_left result ≡ numbers_between self.now.bytes.now 0 (name_count self.now.bytes.now) }
     {
-        Parties {
+        EachName {
+            first: Name::first(self.bytes),
+            end: self.name_count,
+        }
+    }
+
+    pub(crate) fn each_party(&self) -> EachParty<'a>
+        ensures { parties_left result ≡ numbers_between self.now.bytes.now 0 (party_count self.now.bytes.now) }
+    {
+        EachParty {
             first: self.first,
-            end: self.parties,
+            end: self.party_count,
         }
     }
 
@@ -94,7 +103,7 @@ impl<'a> Layout<'a> {
         if byte_at(self.bytes, self.order_at) != 1 {
             return order;
         }
-        order + 2 * self.names as usize
+        order + 2 * self.name_count as usize
     }
 
     // The first pass: where the protocol ends too early, its length is told; where it goes on, the first place too many.

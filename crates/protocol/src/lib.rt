@@ -51,8 +51,8 @@ pub fn check(heap: Global, protocol: &[u8]) -> Result<Accepted, CheckError>
     let drawn = orders::draw(heap, &layout)?;
     orders::check_order(&layout, &drawn)?;
     Ok(Accepted {
-        names: layout.names,
-        parties: layout.parties,
+        names: layout.name_count,
+        parties: layout.party_count,
         opened: openings::opened_count(&layout),
         order: drawn.map(|drawn| drawn.order),
     })

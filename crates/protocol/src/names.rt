@@ -1,6 +1,7 @@
 // The names of a protocol, one after another: a byte of the name's length, and the name.
 ghost use Rattle.std.specs.Prelude.{◌≡◌, ◌+◌, ◌*◌, ◌<◌, ◌≤◌, slice_index};
 ghost use Rattle.protocol.specs.Layout.{name_at, name_of};
+ghost use Rattle.std.specs.Iterator.{YieldsFirstBy, item_count};
 
 use parts::{byte_at, part};
 
@@ -54,7 +55,7 @@ impl<'a> Name<'a> {
     }
 
     #[tactic(auto, using(crate::proofs::Walks::name_more))]
-    pub(crate) fn following(&self) -> Name<'a>
+    fn following(&self) -> Name<'a>
         requires { self.now.number < 65535 }
         ensures bytes { result.bytes.now ≡ self.now.bytes.now }
         ensures number { result.number ≡ self.now.number + 1 }
@@ -64,5 +65,31 @@ impl<'a> Name<'a> {
             number: self.number + 1,
             at: self.at + 1 + self.length() as usize,
         }
+    }
+}
+
+// The names from one on, up to a number.
+#[derive(Drop)]
+pub(crate) struct EachName<'a> {
+    pub first: Name<'a>,
+    pub end: u16,
+}
+
+impl<'a> Iterator for EachName<'a> {
+    type Item = Name<'a>;
+
+    ghost use Rattle.protocol.specs.Walk.{names_left, numbered_name};
+
+    ghost next_gives = { YieldsFirstBy numbered_name names_left };
+
+    ghost remaining = { item_count names_left };
+
+    fn next(&mut self) -> Option<Name<'a>> {
+        let name = self.first;
+        if name.number >= self.end {
+            return None;
+        }
+        self.first = name.following();
+        Some(name)
     }
 }

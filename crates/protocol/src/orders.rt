@@ -30,7 +30,7 @@ pub(crate) fn draw(heap: Global, layout: &Layout) -> Result<Option<Drawn>, Alloc
     ensures { IfOk result (λ d. drawing d ≡ drawing_of layout.now.bytes.now) }
 {
     let sum = sum_of_bits(heap, layout)?;
-    let mut order = vec![in heap; 0; layout.names as usize]?;
+    let mut order = vec![in heap; 0; layout.name_count as usize]?;
     let Some(used) = draw_order(&mut order, &sum, 0) else {
         return Ok(None);
     };

@@ -94,17 +94,17 @@ impl<'a> Party<'a> {
 
 // The parties from one on, up to a number.
 #[derive(Drop)]
-pub(crate) struct Parties<'a> {
+pub(crate) struct EachParty<'a> {
     pub first: Party<'a>,
     pub end: u8,
 }
 
-impl<'a> Iterator for Parties<'a> {
+impl<'a> Iterator for EachParty<'a> {
     type Item = Party<'a>;
 
-    ghost use Rattle.protocol.specs.Walk.{numbered, parties_left};
+    ghost use Rattle.protocol.specs.Walk.{numbered_party, parties_left};
 
-    ghost next_gives = { YieldsFirstBy numbered parties_left };
+    ghost next_gives = { YieldsFirstBy numbered_party parties_left };
 
     ghost remaining = { item_count parties_left };
 

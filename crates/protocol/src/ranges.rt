@@ -30,12 +30,10 @@ fn check_name(name: &Name, before: &[u8]) -> Result<(), Refusal>
 fn check_names(layout: &Layout) -> Result<(), Refusal>
     ensures { result_err result ≡ option_map (λ at. OutOfRange at) (first_of (name_fault layout.now.bytes.now) (name_count layout.now.bytes.now)) }
 {
-    let mut name = Name::first(layout.bytes);
     let mut before = &layout.bytes[0..0];
-    for _k in 0..layout.names {
+    for name in layout.each_name() {
         check_name(&name, before)?;
         before = name.text();
-        name = name.following();
     }
     Ok(())
 }
@@ -61,14 +59,14 @@ fn check_marks(layout: &Layout) -> Result<(), Refusal>
 pub(crate) fn check_ranges(layout: &Layout) -> Result<(), Refusal>
     ensures { result_err result ≡ option_map (λ at. OutOfRange at) (range_fault layout.now.bytes.now) }
 {
-    if !(1..=MOST_NAMES).contains(&layout.names) {
+    if !(1..=MOST_NAMES).contains(&layout.name_count) {
         return Err(Refusal::OutOfRange(0));
     }
     check_names(layout)?;
     if !(LEAST_BITS..=MOST_BITS).contains(&layout.length()) {
         return Err(Refusal::OutOfRange(layout.length_at));
     }
-    if layout.parties == 0 {
+    if layout.party_count == 0 {
         return Err(Refusal::OutOfRange(layout.length_at + 2));
     }
     check_marks(layout)

@@ -40,7 +40,7 @@ returns c =
     let o : option_map vec_items c.map.result ≡ ordered (drawing drawn) = search rules in
     let e =
     verdict_accepted B (c.in_ok-check_early.ensures ∙ ap early_fault same) (option_map vec_items c.map.result) (o ∙ ap ordered (c.in_ok-drawn.ensures ∙ ap drawing_of same))
-    c.of-layout.result.names c.of-layout.result.parties c.opened_count.result
+    c.of-layout.result.name_count c.of-layout.result.party_count c.opened_count.result
     (c.in_ok-check_order.ensures ∙ (ap (λ (b : List ℕ). option_map (λ at. WrongOrder at) (order_fault b (ordered (drawing drawn)))) same ∙ ap (λ (z : Option (List ℕ)). option_map (λ at. WrongOrder at) (order_fault B z)) (sym o)))
     (laid.names_are ∙ ap name_count same) (laid.parties_are ∙ ap party_count same) (c.opened_count.ensures ∙ ap opened_count same) in
     let q = promised B (Some _) _ (λ i. omega (arith, c.type_inv.protocol i)) refl e in
