@@ -1,9 +1,12 @@
 -- The first fault of several. Assumes nothing.
-use Rattle.std.proofs.Common.{◌≡◌, ℕ, zero, suc, ◌+◌, ◌-◌, ◌<◌, Some, None, Option, sym, refl, ap, ◌∙◌, suc-add, zero-add, add-one, arith}
-use Rattle.std.specs.Option.{option_map}
+use Rattle.std.proofs.Common.{◌≡◌, ℕ, zero, suc, ◌+◌, ◌-◌, ◌<◌, Some, None, Ok, Err, Option, sym, refl, ap, ◌∙◌, suc-add, zero-add, add-one, arith}
 use Rattle.refusals.specs.declared.Refusal.{Refusal}
-use Rattle.protocol.specs.Check.{or_else, first_of}
-use Rattle.protocol.proofs.Passes.{map_none}
+use Rattle.protocol.specs.Check.{or_else, first_of, refused_with}
+
+-- what passed has no fault
+passed_none : (why : ℕ → Refusal) (o : Option ℕ) → Ok tt ≡ refused_with why o → o ≡ None
+passed_none why None e = refl
+passed_none why (Some at) e = cc
 
 module _ (f : ℕ → Option ℕ) where
   pub first_none : first_of f 0 ≡ None
@@ -31,12 +34,12 @@ module _ (f : ℕ → Option ℕ) where
 
   -- the same, as the refusal that is answered
   module _ (why : ℕ → Refusal) where
-    pub refused_first : (k n : ℕ) (e : Refusal) → k < n → first_of f k ≡ None → Some e ≡ option_map why (f k) → Some e ≡ option_map why (first_of f n)
+    pub refused_first : (k n : ℕ) (e : Refusal) → k < n → first_of f k ≡ None → Err e ≡ refused_with why (f k) → Err e ≡ refused_with why (first_of f n)
     refused_first k n e l h q = go (f k) refl q
       where
-        go : (o : Option ℕ) → o ≡ f k → Some e ≡ option_map why o → Some e ≡ option_map why (first_of f n)
+        go : (o : Option ℕ) → o ≡ f k → Err e ≡ refused_with why o → Err e ≡ refused_with why (first_of f n)
         go None z w = cc
-        go (Some x) z w = w ∙ ap (option_map why) (sym (first_found k n x l h (sym z)))
+        go (Some x) z w = w ∙ ap (refused_with why) (sym (first_found k n x l h (sym z)))
 
-    pub passed_on : (k : ℕ) → first_of f k ≡ None → None ≡ option_map why (f k) → first_of f (k + 1) ≡ None
-    passed_on k h q = first_more k h (map_none why (f k) (sym q))
+    pub passed_on : (k : ℕ) → first_of f k ≡ None → Ok tt ≡ refused_with why (f k) → first_of f (k + 1) ≡ None
+    passed_on k h q = first_more k h (passed_none why (f k) q)

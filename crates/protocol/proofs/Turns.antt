@@ -1,12 +1,11 @@
 -- A walk over the names, or over the parties: which comes next, and what is found. Assumes nothing.
-use Rattle.std.proofs.Common.{◌≡◌, ℕ, ◌+◌, ◌-◌, ◌<◌, List, map, length, Some, None, Option, ap, ◌∙◌, arith}
+use Rattle.std.proofs.Common.{◌≡◌, ℕ, ◌+◌, ◌-◌, ◌<◌, List, map, length, Some, None, Ok, Err, Option, ap, ◌∙◌, arith}
 use Rattle.std.specs.Iterator.{Yields, YieldsFirstBy}
 use Rattle.std.specs.List.{range_with_len}
-use Rattle.std.specs.Option.{option_map}
 use Rattle.std.proofs.lemmas.Iterator.Consumers.{YieldsList-from_first, YieldsList-turn, YieldsList-end}
 use Rattle.std.proofs.lemmas.List.FromFn.{length-map-range_with_len, get_or-map-range_with_len}
 use Rattle.refusals.specs.declared.Refusal.{Refusal}
-use Rattle.protocol.specs.Check.{first_of}
+use Rattle.protocol.specs.Check.{first_of, refused_with}
 use Rattle.protocol.specs.Walk.{numbers_between}
 use Rattle.protocol.proofs.Firsts.{refused_first, passed_on}
 
@@ -30,11 +29,11 @@ module _ (bytes : List ℕ) (n : ℕ) where
 
   -- the first fault of one, as the refusal that is answered
   module _ (fault : List ℕ → ℕ → Option ℕ) (why : ℕ → Refusal) (k : ℕ) (p : List ℕ × ℕ) (turn : (k < n) × (p ≡ (bytes, k))) (none : first_of (fault bytes) k ≡ None) where
-    here : option_map why (fault p.0 p.1) ≡ option_map why (fault bytes k)
-    here = ap (λ (q : List ℕ × ℕ). option_map why (fault q.0 q.1)) turn.1
+    here : refused_with why (fault p.0 p.1) ≡ refused_with why (fault bytes k)
+    here = ap (λ (q : List ℕ × ℕ). refused_with why (fault q.0 q.1)) turn.1
 
-    pub turn_refused : (e : Refusal) → Some e ≡ option_map why (fault p.0 p.1) → Some e ≡ option_map why (first_of (fault bytes) n)
+    pub turn_refused : (e : Refusal) → Err e ≡ refused_with why (fault p.0 p.1) → Err e ≡ refused_with why (first_of (fault bytes) n)
     turn_refused e h = refused_first (fault bytes) why k n e turn.0 none (h ∙ here)
 
-    pub turn_passed : None ≡ option_map why (fault p.0 p.1) → first_of (fault bytes) (k + 1) ≡ None
+    pub turn_passed : Ok tt ≡ refused_with why (fault p.0 p.1) → first_of (fault bytes) (k + 1) ≡ None
     turn_passed h = passed_on (fault bytes) why k none (h ∙ here)

@@ -1,11 +1,20 @@
 -- The verdict by what the passes found. Assumes nothing.
-use Rattle.std.proofs.Common.{◌≡◌, ℕ, List, Some, None, Option, ap, ◌∙◌}
+use Rattle.std.proofs.Common.{◌≡◌, ℕ, List, Some, None, Ok, Err, Option, refl, ap, ◌∙◌}
 use Rattle.std.specs.Option.{option_map}
 use Rattle.refusals.specs.declared.Refusal.{Refusal}
 use Rattle.refusals.specs.declared.Refusal.TheVariants.{WrongOrder}
-use Rattle.protocol.specs.Check.{accepted, refused, early_fault, drawing_of, order_fault, opened_count, judged, judged_order, verdict}
+use Rattle.protocol.specs.Check.{accepted, refused, early_fault, drawing_of, order_fault, opened_count, refused_for, judged, judged_order, verdict}
 use Rattle.protocol.specs.Layout.{name_count, party_count}
 use Rattle.protocol.specs.Protocol.{ordered}
+
+-- a refused pass found the fault that it tells, and a passed one none
+pub fault_refused : (why : Refusal) (o : Option Refusal) → Err why ≡ refused_for o → Some why ≡ o
+fault_refused why None e = cc
+fault_refused why (Some x) e = cc
+
+pub fault_passed : (o : Option Refusal) → Ok tt ≡ refused_for o → None ≡ o
+fault_passed None e = refl
+fault_passed (Some x) e = cc
 
 module _ (bytes : List ℕ) where
   pub verdict_early : (why : Refusal) → Some why ≡ early_fault bytes → refused why ≡ verdict bytes

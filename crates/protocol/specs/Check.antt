@@ -43,6 +43,14 @@ abbrev pub told : (ℕ → Refusal) → Option ℕ → Option Refusal → Option
 told why None next = next
 told why (Some at) next = Some (why at)
 
+-- what a pass answers: the fault that it found, if there is one; and a fault that is told with its number
+abbrev pub refused_for : Option Refusal → Result (Unit {0}) Refusal
+refused_for None = Ok tt
+refused_for (Some why) = Err why
+
+abbrev pub refused_with : (ℕ → Refusal) → Option ℕ → Result (Unit {0}) Refusal
+refused_with why fault = refused_for (option_map why fault)
+
 -- SHAPE: the protocol has as many bytes as its counts and lengths say; else it ends too early, or goes on
 abbrev pub shape_fault : List ℕ → Option ℕ
 shape_fault bytes =

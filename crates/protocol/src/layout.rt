@@ -1,11 +1,9 @@
 // Where the parts of a protocol stand, by its counts and lengths as they stand.
 ghost use Rattle.std.specs.Prelude.{◌≡◌, ◌+◌, ◌^◌, ◌<◌, ◌≤◌};
-ghost use Rattle.protocol.specs.Check.{shape_fault, hash_of};
+ghost use Rattle.protocol.specs.Check.{shape_fault, hash_of, refused_with};
 ghost use Rattle.protocol.specs.Laid.{LaidOut};
 ghost use Rattle.protocol.specs.Layout.{bits_length, name_count, party_count, size};
 ghost use Rattle.protocol.specs.Walk.{names_left, numbers_between, parties_left};
-ghost use Rattle.std.specs.Option.{option_map};
-ghost use Rattle.std.specs.Result.{result_err};
 ghost use Rattle.refusals.specs.declared.Refusal.TheVariants.{ProtocolLength};
 
 use crate::names::{EachName, Name};
@@ -31,7 +29,6 @@ pub(crate) struct Layout<'a> {
 }
 
 impl<'a> Layout<'a> {
-    #[tactic(auto, unfolding(crate::specs::Layout::name_count, crate::specs::Layout::length_at, crate::specs::Layout::bits_length, crate::specs::Layout::party_count, crate::specs::Layout::party_at, crate::specs::Layout::order_at))]
     pub(crate) fn of(bytes: &'a [u8]) -> Layout<'a>
         ensures { result.bytes.now ≡ bytes.now }
     {
@@ -108,7 +105,7 @@ impl<'a> Layout<'a> {
 
     // The first pass: where the protocol ends too early, its length is told; where it goes on, the first place too many.
     pub(crate) fn check_shape(&self) -> Result<(), Refusal>
-        ensures { result_err result ≡ option_map (λ at. ProtocolLength at) (shape_fault self.now.bytes.now) }
+        ensures { result ≡ refused_with ProtocolLength (shape_fault self.now.bytes.now) }
     {
         let size = self.size();
         if self.bytes.len() < size {

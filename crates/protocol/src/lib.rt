@@ -8,8 +8,7 @@
 
 ghost use Rattle.std.specs.Prelude.{◌≡◌, is_ok, IfSome, IfOk};
 ghost use Rattle.std.specs.Option.{option_map};
-ghost use Rattle.std.specs.Result.{result_err};
-ghost use Rattle.protocol.specs.Check.{answered, verdict, early_fault};
+ghost use Rattle.protocol.specs.Check.{answered, verdict, early_fault, refused_for};
 ghost use Rattle.protocol.specs.Draws.{AcceptsDrawn, AcceptsOnlyDrawn};
 ghost use Rattle.protocol.specs.Finished.{protocol_of};
 ghost use Rattle.protocol.specs.Numbers.{bits_used};
@@ -49,7 +48,7 @@ pub fn check(heap: Global, protocol: &[u8]) -> Result<Accepted, CheckError>
     let layout = Layout::of(protocol);
     check_early(&layout)?;
     let drawn = orders::draw(heap, &layout)?;
-    orders::check_order(&layout, &drawn)?;
+    orders::check_order(&layout, drawn.as_ref())?;
     Ok(Accepted {
         names: layout.name_count,
         parties: layout.party_count,
@@ -60,7 +59,7 @@ pub fn check(heap: Global, protocol: &[u8]) -> Result<Accepted, CheckError>
 
 // The first three passes.
 fn check_early(layout: &Layout) -> Result<(), Refusal>
-    ensures { result_err result ≡ early_fault layout.now.bytes.now }
+    ensures { result ≡ refused_for (early_fault layout.now.bytes.now) }
 {
     layout.check_shape()?;
     ranges::check_ranges(layout)?;

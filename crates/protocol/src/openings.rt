@@ -1,10 +1,8 @@
 // The third pass: each opening gives its party's seal, and a party opened.
 ghost use Rattle.std.specs.Prelude.{◌≡◌};
-ghost use Rattle.protocol.specs.Check.{first_of, hash_of, party_fault, opened_count, seal_fault};
+ghost use Rattle.protocol.specs.Check.{first_of, hash_of, party_fault, opened_count, seal_fault, refused_for, refused_with};
 ghost use Rattle.protocol.specs.Layout.{party_count};
 ghost use Rattle.refusals.specs.declared.Refusal.TheVariants.{BadOpening};
-ghost use Rattle.std.specs.Option.{option_map};
-ghost use Rattle.std.specs.Result.{result_err};
 
 use crate::layout::Layout;
 use crate::parties::Party;
@@ -13,7 +11,7 @@ use seals::seal;
 
 // The opening of a party gives its seal, if it opened.
 fn check_opening(hash: &[u8], party: &Party) -> Result<(), Refusal>
-    ensures { result_err result ≡ option_map (λ k. BadOpening k) (party_fault hash.now party.now.bytes.now party.now.number) }
+    ensures { result ≡ refused_with BadOpening (party_fault hash.now party.now.bytes.now party.now.number) }
 {
     let Some(opening) = party.opening() else {
         return Ok(());
@@ -25,7 +23,7 @@ fn check_opening(hash: &[u8], party: &Party) -> Result<(), Refusal>
 }
 
 fn check_openings(layout: &Layout) -> Result<(), Refusal>
-    ensures { result_err result ≡ option_map (λ k. BadOpening k) (first_of (party_fault (hash_of layout.now.bytes.now) layout.now.bytes.now) (party_count layout.now.bytes.now)) }
+    ensures { result ≡ refused_with BadOpening (first_of (party_fault (hash_of layout.now.bytes.now) layout.now.bytes.now) (party_count layout.now.bytes.now)) }
 {
     let hash = layout.list_hash();
     for party in layout.each_party() {
@@ -45,7 +43,7 @@ pub(crate) fn opened_count(layout: &Layout) -> u8
 }
 
 pub(crate) fn check_seals(layout: &Layout) -> Result<(), Refusal>
-    ensures { result_err result ≡ seal_fault layout.now.bytes.now }
+    ensures { result ≡ refused_for (seal_fault layout.now.bytes.now) }
 {
     check_openings(layout)?;
     if opened_count(layout) == 0 {

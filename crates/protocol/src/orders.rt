@@ -1,13 +1,12 @@
 // The fourth pass: the order is the one drawn from the sum of the opened parties' bits, and the word says whether there is
 // one.
 ghost use Rattle.std.specs.Prelude.{◌≡◌, ◌+◌, ◌*◌, ◌^◌, ◌<◌, length, IfOk};
-ghost use Rattle.protocol.specs.Check.{drawing_of, order_fault};
+ghost use Rattle.protocol.specs.Check.{drawing_of, order_fault, refused_with};
 ghost use Rattle.protocol.specs.Found.{drawing};
 ghost use Rattle.protocol.specs.Layout.{numbers_at};
 ghost use Rattle.protocol.specs.Protocol.{ordered};
 ghost use Rattle.refusals.specs.declared.Refusal.TheVariants.{WrongOrder};
-ghost use Rattle.std.specs.Option.{option_map};
-ghost use Rattle.std.specs.Result.{result_err};
+ghost use Rattle.std.specs.Option.{option_copied};
 ghost use Rattle.std.specs.Str.{bytes_eq};
 
 use crate::layout::Layout;
@@ -37,7 +36,8 @@ pub(crate) fn draw(heap: Global, layout: &Layout) -> Result<Option<Drawn>, Alloc
     Ok(Some(Drawn { order, used }))
 }
 
-// Whether the numbers from a place on are those of the order.
+// Whether the numbers from a place on are those of the order. They are counted and not cut into pairs, as numbers past
+// the end count too.
 fn is_order(bytes: &[u8], at: usize, order: &[u16]) -> bool
     requires { at < 2 ^ 34 }
     ensures { result ≡ bytes_eq (numbers_at bytes.now at (length order.now)) order.now }
@@ -47,8 +47,8 @@ fn is_order(bytes: &[u8], at: usize, order: &[u16]) -> bool
 }
 
 // Whether the word is 1 and the order behind it is the one drawn, or the word is 0 and none is drawn.
-pub(crate) fn check_order(layout: &Layout, drawn: &Option<Drawn>) -> Result<(), Refusal>
-    ensures { result_err result ≡ option_map (λ at. WrongOrder at) (order_fault layout.now.bytes.now (ordered (drawing drawn.now))) }
+pub(crate) fn check_order(layout: &Layout, drawn: Option<&Drawn>) -> Result<(), Refusal>
+    ensures { result ≡ refused_with WrongOrder (order_fault layout.now.bytes.now (ordered (drawing (option_copied drawn.entry)))) }
 {
     let at = layout.order_at;
     let word = byte_at(layout.bytes, at);

@@ -1,11 +1,9 @@
 // The second pass: counts, lengths, names and the bytes that tell whether a party opened are in range, and names are
 // sorted. The place of the first that is not is told.
 ghost use Rattle.std.specs.Prelude.{◌≡◌};
-ghost use Rattle.protocol.specs.Check.{first_of, fault_in_name, name_fault, opened_fault, range_fault};
+ghost use Rattle.protocol.specs.Check.{first_of, fault_in_name, name_fault, opened_fault, range_fault, refused_with};
 ghost use Rattle.protocol.specs.Layout.{name_count, name_at, party_count};
 ghost use Rattle.refusals.specs.declared.Refusal.TheVariants.{OutOfRange};
-ghost use Rattle.std.specs.Option.{option_map};
-ghost use Rattle.std.specs.Result.{result_err};
 
 use crate::layout::Layout;
 use crate::names::Name;
@@ -15,7 +13,7 @@ use refusals::Refusal;
 use seals::{LEAST_BITS, MOST_BITS};
 
 fn check_name(name: &Name, before: &[u8]) -> Result<(), Refusal>
-    ensures { result_err result ≡ option_map (λ at. OutOfRange at) (fault_in_name name.now.bytes.now (name_at name.now.bytes.now name.now.number) before.now) }
+    ensures { result ≡ refused_with OutOfRange (fault_in_name name.now.bytes.now (name_at name.now.bytes.now name.now.number) before.now) }
 {
     let length = name.length() as usize;
     if !(1..=LONGEST_NAME).contains(&length) {
@@ -28,7 +26,7 @@ fn check_name(name: &Name, before: &[u8]) -> Result<(), Refusal>
 }
 
 fn check_names(layout: &Layout) -> Result<(), Refusal>
-    ensures { result_err result ≡ option_map (λ at. OutOfRange at) (first_of (name_fault layout.now.bytes.now) (name_count layout.now.bytes.now)) }
+    ensures { result ≡ refused_with OutOfRange (first_of (name_fault layout.now.bytes.now) (name_count layout.now.bytes.now)) }
 {
     let mut before = &layout.bytes[0..0];
     for name in layout.each_name() {
@@ -39,7 +37,7 @@ fn check_names(layout: &Layout) -> Result<(), Refusal>
 }
 
 fn check_mark(party: &Party) -> Result<(), Refusal>
-    ensures { result_err result ≡ option_map (λ at. OutOfRange at) (opened_fault party.now.bytes.now party.now.number) }
+    ensures { result ≡ refused_with OutOfRange (opened_fault party.now.bytes.now party.now.number) }
 {
     if party.mark() > 1 {
         return Err(Refusal::OutOfRange(party.mark_at()));
@@ -48,7 +46,7 @@ fn check_mark(party: &Party) -> Result<(), Refusal>
 }
 
 fn check_marks(layout: &Layout) -> Result<(), Refusal>
-    ensures { result_err result ≡ option_map (λ at. OutOfRange at) (first_of (opened_fault layout.now.bytes.now) (party_count layout.now.bytes.now)) }
+    ensures { result ≡ refused_with OutOfRange (first_of (opened_fault layout.now.bytes.now) (party_count layout.now.bytes.now)) }
 {
     for party in layout.each_party() {
         check_mark(&party)?;
@@ -57,7 +55,7 @@ fn check_marks(layout: &Layout) -> Result<(), Refusal>
 }
 
 pub(crate) fn check_ranges(layout: &Layout) -> Result<(), Refusal>
-    ensures { result_err result ≡ option_map (λ at. OutOfRange at) (range_fault layout.now.bytes.now) }
+    ensures { result ≡ refused_with OutOfRange (range_fault layout.now.bytes.now) }
 {
     if !(1..=MOST_NAMES).contains(&layout.name_count) {
         return Err(Refusal::OutOfRange(0));

@@ -6,6 +6,7 @@ ghost use Rattle.texts.specs.Lines.{summary_lines};
 
 use refusals::Refusal;
 use std::alloc::{AllocError, Global};
+use texts::Summary;
 
 // The numbers of names, of parties and of those that opened, and the order if there is one.
 #[derive(Drop)]
@@ -21,13 +22,13 @@ impl Accepted {
     pub(crate) fn text(&self, heap: Global) -> Result<String, AllocError>
         ensures { IfOk result (λ s. string_bytes s ≡ summary_lines self.now.names self.now.parties self.now.opened (option_map vec_items self.now.order)) }
     {
-        texts::summary_text(
-            heap,
-            self.names,
-            self.parties,
-            self.opened,
-            self.order.as_deref(),
-        )
+        Summary {
+            names: self.names,
+            parties: self.parties,
+            opened: self.opened,
+            order: self.order.as_deref(),
+        }
+        .text(heap)
     }
 }
 

@@ -1,9 +1,8 @@
 use Rattle.std.proofs.Common.{ℕ, List, length, sym, ap, ◌∙◌}
-use Rattle.std.specs.Option.{option_map}
 use Rattle.std.proofs.lemmas.List.{length_push}
 use Rattle.std.proofs.lemmas.Result.{err_from_is_err_and}
 use Rattle.refusals.specs.declared.Refusal.TheVariants.{BadOpening}
-use Rattle.protocol.specs.Check.{first_of, party_fault, hash_of}
+use Rattle.protocol.specs.Check.{first_of, party_fault, hash_of, refused_with}
 use Rattle.protocol.specs.Layout.{party_count}
 use Rattle.protocol.specs.Walk.{numbered_party, parties_left}
 use Rattle.protocol.proofs.Firsts.{first_none}
@@ -18,7 +17,7 @@ loop-party-preserved c =
     let B = c.args.layout.now.bytes.now in
     let turn = turn_is B (party_count B) numbered_party parties_left _ (cc) c.loop-party.yielded _ c.loop-party.yielded_by _ c.next.new.self c.next.ensures.steps c.in-Some.party c.in-Some.is in
     ap (first_of (party_fault (hash_of B) B)) (length_push c.loop-party.yielded c.in-Some.party)
-    ∙ turn_passed B (party_count B) (party_fault (hash_of B)) (λ k. BadOpening k) (length c.loop-party.yielded) (numbered_party c.in-Some.party) turn c.loop-party.invariant (c.in_ok-check_opening.ensures ∙ ap (λ (h : List ℕ). option_map (λ k. BadOpening k) (party_fault h c.in-Some.party.bytes.now c.in-Some.party.number)) c.list_hash-hash.ensures)
+    ∙ turn_passed B (party_count B) (party_fault (hash_of B)) BadOpening (length c.loop-party.yielded) (numbered_party c.in-Some.party) turn c.loop-party.invariant (c.in_ok-check_opening.ensures ∙ ap (λ (h : List ℕ). refused_with BadOpening (party_fault h c.in-Some.party.bytes.now c.in-Some.party.number)) c.list_hash-hash.ensures)
 
 pub returns-in_err-check_opening : goal.returns-in_err-check_opening
 returns-in_err-check_opening c =
@@ -26,10 +25,10 @@ returns-in_err-check_opening c =
     let turn = turn_is B (party_count B) numbered_party parties_left _ (cc) c.loop-party.yielded _ c.loop-party.yielded_by _ c.next.new.self c.next.ensures.steps c.in-Some.party c.in-Some.is in
     let p = err_from_is_err_and c.from_residual.result c.from_residual.ensures.1 in
     rw (p.1, p.2)
-    (turn_refused B (party_count B) (party_fault (hash_of B)) (λ k. BadOpening k) (length c.loop-party.yielded) (numbered_party c.in-Some.party) turn c.loop-party.invariant _ (c.in_err-check_opening.ensures ∙ ap (λ (h : List ℕ). option_map (λ k. BadOpening k) (party_fault h c.in-Some.party.bytes.now c.in-Some.party.number)) c.list_hash-hash.ensures))
+    (turn_refused B (party_count B) (party_fault (hash_of B)) BadOpening (length c.loop-party.yielded) (numbered_party c.in-Some.party) turn c.loop-party.invariant _ (c.in_err-check_opening.ensures ∙ ap (λ (h : List ℕ). refused_with BadOpening (party_fault h c.in-Some.party.bytes.now c.in-Some.party.number)) c.list_hash-hash.ensures))
 
 pub returns : goal.returns
 returns c =
     let B = c.args.layout.now.bytes.now in
     let end = turns_end B (party_count B) numbered_party parties_left _ (cc) c.loop-party.yielded _ c.loop-party.yielded_by _ c.next.new.self c.next.ensures.steps c.in-None.is in
-    ap (option_map (λ k. BadOpening k)) (sym c.loop-party.invariant ∙ ap (first_of (party_fault (hash_of B) B)) end)
+    ap (refused_with BadOpening) (sym c.loop-party.invariant ∙ ap (first_of (party_fault (hash_of B) B)) end)

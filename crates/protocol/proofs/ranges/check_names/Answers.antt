@@ -1,9 +1,8 @@
 use Rattle.std.proofs.Common.{ℕ, length, List, refl, sym, ap, ◌∙◌}
-use Rattle.std.specs.Option.{option_map}
 use Rattle.std.proofs.lemmas.List.{length_push}
 use Rattle.std.proofs.lemmas.Result.{err_from_is_err_and}
 use Rattle.refusals.specs.declared.Refusal.TheVariants.{OutOfRange}
-use Rattle.protocol.specs.Check.{first_of, name_before, name_fault}
+use Rattle.protocol.specs.Check.{first_of, name_before, name_fault, refused_with}
 use Rattle.protocol.specs.Layout.{name_count}
 use Rattle.protocol.specs.Walk.{names_left, numbered_name}
 use Rattle.protocol.proofs.Faults.{name_fault_is, before_more}
@@ -27,7 +26,7 @@ loop-name-preserved c =
     let more = length_push c.loop-name.yielded name in
     record {
       before = before_more B name.bytes.now c.text-before.result.now k name.number b n c.text-before.ensures ∙ ap (name_before B) (sym more);
-      none = ap (first_of (name_fault B)) more ∙ passed_on (name_fault B) (λ at. OutOfRange at) k i.none (c.in_ok-check_name.ensures ∙ ap (option_map (λ at. OutOfRange at)) here);
+      none = ap (first_of (name_fault B)) more ∙ passed_on (name_fault B) OutOfRange k i.none (c.in_ok-check_name.ensures ∙ ap (refused_with OutOfRange) here);
     }
 
 pub returns-in_err-check_name : goal.returns-in_err-check_name
@@ -40,10 +39,10 @@ returns-in_err-check_name c =
     let here = name_fault_is B name.bytes.now c.loop-name.before.now k name.number (ap (λ (q : List ℕ × ℕ). q.0) turn.1) (ap (λ (q : List ℕ × ℕ). q.1) turn.1) i.before in
     let p = err_from_is_err_and c.from_residual.result c.from_residual.ensures.1 in
     rw (p.1, p.2)
-    (refused_first (name_fault B) (λ at. OutOfRange at) k (name_count B) _ turn.0 i.none (c.in_err-check_name.ensures ∙ ap (option_map (λ at. OutOfRange at)) here))
+    (refused_first (name_fault B) OutOfRange k (name_count B) _ turn.0 i.none (c.in_err-check_name.ensures ∙ ap (refused_with OutOfRange) here))
 
 pub returns : goal.returns
 returns c =
     let B = c.args.layout.now.bytes.now in
     let end = turns_end B (name_count B) numbered_name names_left _ (cc) c.loop-name.yielded _ c.loop-name.yielded_by _ c.next.new.self c.next.ensures.steps c.in-None.is in
-    ap (option_map (λ at. OutOfRange at)) (sym c.loop-name.invariant.none ∙ ap (first_of (name_fault B)) end)
+    ap (refused_with OutOfRange) (sym c.loop-name.invariant.none ∙ ap (first_of (name_fault B)) end)
