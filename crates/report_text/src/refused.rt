@@ -16,7 +16,19 @@ fn reason(why: Refusal) -> &'static [u8]
             b"a count, a length, a name or an opened byte is out of range, or a name is not above the one before",
         Refusal::BadOpening(_) | Refusal::NoneOpened =>
             b"the opening of this party does not give its seal, or, at 255, no party opened",
-        _ => b"the order is not the one that is drawn from the openings",
+        // the refusals of steps never come of a protocol, and have no words of their own
+        Refusal::WrongOrder(_)
+        | Refusal::NameLength(_)
+        | Refusal::NameTaken
+        | Refusal::WrongTime
+        | Refusal::BitsLength
+        | Refusal::SealLength(_)
+        | Refusal::TooManySeals
+        | Refusal::NoSuchParty(_)
+        | Refusal::OpeningLength(_)
+        | Refusal::WrongOpening(_)
+        | Refusal::Nothing(_)
+        | Refusal::NoRoom(_) => b"the order is not the one that is drawn from the openings",
     }
 }
 
