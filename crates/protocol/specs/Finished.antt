@@ -1,7 +1,9 @@
 -- The protocol of a finished draw, from its memory: names in slots with their index, the parties' records, and the order if there is one. Assumes nothing.
 use Rattle.std.specs.Prelude.{ℕ, cond, List, map, Some, None, Option}
 use Rattle.std.specs.List.{range_with_len}
+use Rattle.entries.specs.declared.Names.{Names}
 use Rattle.entries.specs.Rows.{listed}
+use Rattle.seals.specs.declared.Records.{Records}
 use Rattle.seals.specs.Records.{seal_in, has_opened, opening_in}
 use Rattle.protocol.specs.Protocol.{Party, Protocol}
 
@@ -18,3 +20,8 @@ protocol_of slots index count L seals parties order =
       parties = map (party_left seals L) (range_with_len 0 parties);
       order = order;
     }
+
+-- the same from the list and the records as they are read
+abbrev pub protocol_held : Names → Records → Option (List ℕ) → Protocol
+protocol_held names records order =
+    protocol_of names.slots.now names.index.now names.count records.length records.bytes.now records.count order

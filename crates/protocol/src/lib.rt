@@ -7,18 +7,18 @@
 #![tactic(auto)]
 
 ghost use Rattle.std.specs.Prelude.{◌≡◌, is_ok, IfSome, IfOk};
-ghost use Rattle.std.specs.Option.{option_map};
+ghost use Rattle.std.specs.Option.{option_copied};
 ghost use Rattle.protocol.specs.Check.{answered, verdict, early_fault, refused_for};
 ghost use Rattle.protocol.specs.Draws.{AcceptsDrawn, AcceptsOnlyDrawn};
-ghost use Rattle.protocol.specs.Finished.{protocol_of};
+ghost use Rattle.protocol.specs.Finished.{protocol_held};
 ghost use Rattle.protocol.specs.Numbers.{bits_used};
 ghost use Rattle.protocol.specs.Protocol.{written};
 ghost use Rattle.protocol.specs.Texts.{verdict_text, is_accepted, answered_text, RepeatsDrawn, RepeatsOnlyDrawn};
 
-use entries::NameList;
+use entries::Names;
 use layout::Layout;
 use refusals::Refusal;
-use seals::Parties;
+use seals::Records;
 use std::alloc::{AllocError, Global};
 use words::write_word;
 use writing::{write_names, write_order, write_parties};
@@ -82,17 +82,17 @@ pub fn bits_used(heap: Global, protocol: &[u8]) -> Result<Option<usize>, AllocEr
 // The protocol of a finished draw: its list, its parties, and the order if there is one.
 pub fn write(
     heap: Global,
-    list: &NameList,
-    parties: &Parties,
+    names: Names<'_>,
+    records: Records<'_>,
     order: Option<&[u16]>,
 ) -> Result<Vec<u8>, AllocError>
-    ensures { IfOk result (λ v. v.items ≡ written (protocol_of list.now.slots.now list.now.index.now list.now.count parties.now.length parties.now.records.now parties.now.count (option_map (λ x. x.now) order.entry))) }
+    ensures { IfOk result (λ v. v.items ≡ written (protocol_held names.entry records.entry (option_copied order.entry))) }
 {
     let mut out = Vec::new(heap);
-    write_names(&mut out, list)?;
-    write_word(&mut out, parties.length)?;
-    out.push(parties.count)?;
-    write_parties(&mut out, parties)?;
+    write_names(&mut out, &names)?;
+    write_word(&mut out, records.length)?;
+    out.push(records.count)?;
+    write_parties(&mut out, &records)?;
     write_order(&mut out, order)?;
     Ok(out)
 }

@@ -1,15 +1,15 @@
 // The parts of a protocol, written from a finished draw's memory one after another.
 ghost use Rattle.std.specs.Prelude.{◌≡◌, ◌<◌, ◌++◌, map, length, OnOk};
-ghost use Rattle.entries.specs.Rows.{listed, packed, packed_rows};
+ghost use Rattle.entries.specs.Lists.{names_listed};
+ghost use Rattle.entries.specs.Rows.{packed, packed_rows};
 ghost use Rattle.protocol.specs.Finished.{party_left};
 ghost use Rattle.protocol.specs.Protocol.{word, written_party, written_order};
 ghost use Rattle.std.specs.Option.{option_map};
 ghost use Rattle.std.specs.List.{range_with_len, flat_map};
 
 use crate::words::write_word;
-use entries::NameList;
-use parts::part;
-use seals::{Parties, SALT, SEAL};
+use entries::Names;
+use seals::Records;
 use std::alloc::AllocError;
 
 // A name after one byte of its length.
@@ -22,38 +22,35 @@ fn write_name(out: &mut Vec<u8>, name: &[u8]) -> Result<(), AllocError>
 }
 
 // The number of names, and the names.
-pub(crate) fn write_names(out: &mut Vec<u8>, list: &NameList) -> Result<(), AllocError>
-    ensures { OnOk result (out.new.items ≡ out.old.items ++ (word (length (listed list.now.slots.now list.now.index.now list.now.count)) ++ packed_rows (listed list.now.slots.now list.now.index.now list.now.count))) }
+pub(crate) fn write_names(out: &mut Vec<u8>, names: &Names) -> Result<(), AllocError>
+    ensures { OnOk result (out.new.items ≡ out.old.items ++ (word (length (names_listed names.now)) ++ packed_rows (names_listed names.now))) }
 {
-    let names = list.index.len().min(list.count as usize) as u16;
-    write_word(out, names)?;
-    for number in 0..names {
-        write_name(out, list.name(number))?;
+    let count = names.len();
+    write_word(out, count)?;
+    for number in 0..count {
+        write_name(out, names.name(number))?;
     }
     Ok(())
 }
 
 // A party: its seal, and one byte 1 and its opening, or one byte 0.
-fn write_party(out: &mut Vec<u8>, parties: &Parties, party: u8) -> Result<(), AllocError>
-    ensures { OnOk result (out.new.items ≡ out.old.items ++ written_party (party_left parties.now.records.now parties.now.length party)) }
+fn write_party(out: &mut Vec<u8>, records: &Records, party: u8) -> Result<(), AllocError>
+    ensures { OnOk result (out.new.items ≡ out.old.items ++ written_party (party_left records.now.bytes.now records.now.length party)) }
 {
-    let size = SALT + parties.length as usize;
-    let at = (SEAL + 1 + size) * party as usize;
-    out.extend_from_slice(part(parties.records, at, SEAL))?;
-    if !parties.has_opened(party) {
+    out.extend_from_slice(records.seal_in(party))?;
+    let Some(opening) = records.opening_in(party) else {
         out.push(0)?;
         return Ok(());
-    }
+    };
     out.push(1)?;
-    out.extend_from_slice(part(parties.records, at + SEAL + 1, size))?;
-    Ok(())
+    out.extend_from_slice(opening)
 }
 
-pub(crate) fn write_parties(out: &mut Vec<u8>, parties: &Parties) -> Result<(), AllocError>
-    ensures { OnOk result (out.new.items ≡ out.old.items ++ flat_map written_party (map (party_left parties.now.records.now parties.now.length) (range_with_len 0 parties.now.count))) }
+pub(crate) fn write_parties(out: &mut Vec<u8>, records: &Records) -> Result<(), AllocError>
+    ensures { OnOk result (out.new.items ≡ out.old.items ++ flat_map written_party (map (party_left records.now.bytes.now records.now.length) (range_with_len 0 records.now.count))) }
 {
-    for party in 0..parties.count {
-        write_party(out, parties, party)?;
+    for party in 0..records.count {
+        write_party(out, records, party)?;
     }
     Ok(())
 }

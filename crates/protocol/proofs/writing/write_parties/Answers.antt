@@ -8,5 +8,5 @@ use Rattle.protocol.proofs.writing.write_parties.Goals as goal
 
 pub loop-party-preserved : goal.loop-party-preserved
 loop-party-preserved c =
-    let f = party_left c.args.parties.now.records.now c.args.parties.now.length in
+    let f = party_left c.args.records.now.bytes.now c.args.records.now.length in
     joined_on written_party _ _ _ (map f (range_with_len 0 c.loop-party.party)) _ (f c.loop-party.party) c.loop-party.invariant c.in_ok-write_party.ensures (map-range_with_len_more f 0 c.loop-party.party c.loop-party.party (omega arith))

@@ -5,4 +5,4 @@ use Rattle.protocol.specs.Protocol.{written_party}
 use Rattle.protocol.proofs.writing.write_parties.Given as goal
 
 abbrev pub invariant-loop-party : goal.invariant-loop-party
-invariant-loop-party l = vec_items l.out ≡ vec_items l.initial.out ++ flat_map written_party (map (party_left l.parties.records.now l.parties.length) (range_with_len 0 l.party))
+invariant-loop-party l = vec_items l.out ≡ vec_items l.initial.out ++ flat_map written_party (map (party_left l.records.bytes.now l.records.length) (range_with_len 0 l.party))
