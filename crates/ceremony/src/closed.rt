@@ -38,6 +38,7 @@ impl Closed<'_> {
         match kind {
             Kind::Entry => self
                 .list
+                .names()
                 .place_for(bytes)
                 .err()
                 .unwrap_or(Refusal::WrongTime),

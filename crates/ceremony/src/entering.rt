@@ -64,7 +64,7 @@ impl<'a> Listing<'a> {
             bits,
             order,
         } = self;
-        let hash = list.hash();
+        let hash = list.names().hash();
         bits[0..length as usize].fill(0);
         let parties = Parties {
             records: seals,

@@ -1,20 +1,18 @@
 // The last phase: the order is drawn, or the bits have run out.
-ghost use Rattle.std.specs.Prelude.{◌≡◌, ◌≤◌, cond, List, [], ◌++◌, length, take, IfOk, OnOk, string_bytes};
+ghost use Rattle.std.specs.Prelude.{◌≡◌, ◌≤◌, length, take, IfOk, string_bytes};
 ghost use Rattle.ceremony.specs.Model.{as_ended, sealed};
 ghost use Rattle.ceremony.specs.Reports.{summary_of, left_out_of, left_out_lines, protocol_left, order_of};
 ghost use Rattle.ceremony.specs.Steps.{after_drawing};
 ghost use Rattle.order.specs.Drawings.{drawn_order, outcome, left_in};
 ghost use Rattle.protocol.specs.Protocol.{written};
-ghost use Rattle.seals.specs.Records.{has_opened};
-ghost use Rattle.texts.specs.Lines.{left_out_line};
 ghost use Rattle.std.specs.Option.{option_map};
 
 use crate::closed::Closed;
 use order::draw_order;
 use protocol::write;
-use seals::Parties;
+use seals::Records;
 use std::alloc::{AllocError, Global};
-use texts::{add_left_out, summary_text};
+use texts::{Summary, add_left_out};
 
 #[derive(Drop)]
 pub struct Finished<'a> {
@@ -34,23 +32,15 @@ fn draw_front(order: &mut [u16], names: u16, bits: &[u8], bytes: u16) -> Option<
     draw_order(&mut order[0..names], &bits[0..bytes], 0)
 }
 
-// The line of a party, if it has not opened.
-fn add_if_left_out(text: &mut String, parties: &Parties, party: u8) -> Result<(), AllocError>
-    ensures { OnOk result (string_bytes text.new ≡ string_bytes text.old ++ cond (has_opened parties.now.records.now parties.now.length party) [] (left_out_line party)) }
-{
-    if parties.has_opened(party) {
-        return Ok(());
-    }
-    add_left_out(text, party)
-}
-
 // The lines that name the parties that have not opened.
-fn left_out_lines(heap: Global, parties: &Parties) -> Result<String, AllocError>
-    ensures { IfOk result (λ s. string_bytes s ≡ left_out_lines parties.now.records.now parties.now.length parties.now.count) }
+fn left_out_lines(heap: Global, records: Records<'_>) -> Result<String, AllocError>
+    ensures { IfOk result (λ s. string_bytes s ≡ left_out_lines records.entry.bytes.now records.entry.length records.entry.count) }
 {
     let mut text = String::new(heap);
-    for party in 0..parties.count {
-        add_if_left_out(&mut text, parties, party)?;
+    for party in 0..records.count {
+        if !records.has_opened(party) {
+            add_left_out(&mut text, party)?;
+        }
     }
     Ok(text)
 }
@@ -86,13 +76,13 @@ impl<'a> Finished<'a> {
         ensures { IfOk result (λ s. string_bytes s ≡ summary_of (as_ended self.now)) }
     {
         let Closed { list, parties, .. } = &self.closed;
-        summary_text(
-            heap,
-            list.count,
-            parties.count,
-            parties.opened_count(),
-            self.order(),
-        )
+        let summary = Summary {
+            names: list.count,
+            parties: parties.count,
+            opened: parties.records().opened_count(),
+            order: self.order(),
+        };
+        summary.text(heap)
     }
 
     // The names in order, if there is an order.
@@ -108,13 +98,14 @@ impl<'a> Finished<'a> {
     pub fn left_out(&self, heap: Global) -> Result<String, AllocError>
         ensures { IfOk result (λ s. string_bytes s ≡ left_out_of (as_ended self.now)) }
     {
-        left_out_lines(heap, &self.closed.parties)
+        left_out_lines(heap, self.closed.parties.records())
     }
 
     // The protocol of the draw.
     pub fn protocol(&self, heap: Global) -> Result<Vec<u8>, AllocError>
         ensures { IfOk result (λ v. v.items ≡ written (protocol_left (as_ended self.now))) }
     {
-        write(heap, &self.closed.list, &self.closed.parties, self.order())
+        let Closed { list, parties, .. } = &self.closed;
+        write(heap, list.names(), parties.records(), self.order())
     }
 }

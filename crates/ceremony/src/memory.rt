@@ -12,7 +12,7 @@ pub struct Memory<'a> {
 }
 
 // How many names the closed list has, how many bytes each party puts in, and the list's hash.
-#[derive(Clone, Copy)]
+#[derive(Clone, Copy, Debug, PartialEq, Eq)]
 pub struct ClosedList {
     pub count: u16,
     pub length: u16,

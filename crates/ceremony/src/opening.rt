@@ -45,7 +45,7 @@ impl<'a> Opening<'a> {
         ensures { result ≡ may_draw (as_opened self.now) }
     {
         let closed = &self.closed;
-        if closed.parties.opened_count() == 0 {
+        if closed.parties.records().opened_count() == 0 {
             return Err(Refusal::Nothing(Missing::Opening));
         }
         if closed.bits.len() < closed.parties.length as usize {

@@ -2,15 +2,15 @@
 //
 // `draw` is all that the program of that name does between reading its file and printing: the memory of the draw, every
 // step of the file, the lines for the refusals, the summary and the parties left out, and the bytes of the protocol.
-// `run::run` goes only to the last state, over memory that the caller lends; it stands in its module since a crate can't
-// have a module and a function of one name.
+// `run` goes only to the last state, over memory that the caller lends.
 #![tactic(auto)]
 
+mod all_steps;
 mod no_draw;
 mod report;
 mod room;
-pub mod run;
 
+pub use all_steps::run;
 pub use no_draw::NoDraw;
 pub use report::{Finish, Report, draw};
 pub use room::Room;

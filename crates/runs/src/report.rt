@@ -7,9 +7,9 @@ ghost use Rattle.ceremony.specs.Reports.{summary_of, left_out_of, protocol_left}
 ghost use Rattle.protocol.specs.Protocol.{written};
 ghost use Rattle.runs.specs.Reports.{report, end_of, told_of, report_of};
 
+use crate::all_steps::run;
 use crate::no_draw::NoDraw;
 use crate::room::Room;
-use crate::run::run;
 use ceremony::{Draw, Finished, Listing};
 use seals::MOST_PARTIES;
 use std::alloc::{AllocError, Global};

@@ -5,7 +5,7 @@ ghost use Rattle.runs.specs.Rooms.{contents, room_for};
 
 use ceremony::Memory;
 use entries::{MOST_NAMES, SLOT};
-use seals::{MOST_BITS, SALT, SEAL};
+use seals::{MOST_BITS, record_size};
 use std::alloc::{AllocError, Global};
 
 const NAMES: usize = MOST_NAMES as usize;
@@ -13,9 +13,6 @@ const NAMES: usize = MOST_NAMES as usize;
 const SLOTS: usize = SLOT * NAMES;
 
 const BITS: usize = MOST_BITS as usize;
-
-// A party's record: its seal, whether it has opened, and its opening.
-const RECORD: usize = SEAL + 1 + SALT + BITS;
 
 #[derive(Drop)]
 pub struct Room {
@@ -33,7 +30,7 @@ impl Room {
     {
         let slots = vec![in heap; 0u8; SLOTS]?;
         let index = vec![in heap; 0u16; NAMES]?;
-        let seals = vec![in heap; 0u8; RECORD * parties as usize]?;
+        let seals = vec![in heap; 0u8; record_size(MOST_BITS) * parties as usize]?;
         let bits = vec![in heap; 0u8; BITS]?;
         let order = vec![in heap; 0u16; NAMES]?;
         Ok(Room {

@@ -25,7 +25,7 @@ fn tell(rt: &HostRuntime, file: &[u8], party: u8, opening: &[u8]) -> anyhow::Res
     let start = Draw::Listing(Listing::begin(room.lend()));
     // The lines for refused steps are not printed: the party asks for its seal alone.
     let mut refusals = String::new(heap);
-    let (last, read) = runs::run::run(start, file, &mut refusals)?;
+    let (last, read) = runs::run(start, file, &mut refusals)?;
     ensure!(read.is_ok(), "the file of steps ends inside a step");
     let (text, sealed) = whole(heap, 256, |out| put_seal(out, &last, party, opening))?;
     if sealed.is_ok() {

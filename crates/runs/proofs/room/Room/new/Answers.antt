@@ -1,4 +1,4 @@
-use Rattle.std.proofs.Common.{◌≡◌, ℕ, ◌*◌, List, replicate}
+use Rattle.std.proofs.Common.{◌≡◌, ℕ, ◌*◌, List, replicate, ap, ◌∙◌}
 use Rattle.ceremony.specs.Model.{Held}
 use Rattle.runs.specs.Rooms.{room_for}
 use Rattle.runs.proofs.room.Room.new.Goals as goal
@@ -10,5 +10,5 @@ all_zeros n a b d e f p q r s t = λ i. record { slots = p i; index = q i; seals
 
 pub returns : goal.returns
 returns c =
-    all_zeros c.args.parties _ _ _ _ _ (c.in_ok-slots.ensures.items_if_clones_equal (λ y e. e)) (c.in_ok-index.ensures.items_if_clones_equal (λ y e. e)) (c.in_ok-seals.ensures.items_if_clones_equal (λ y e. e))
+    all_zeros c.args.parties _ _ _ _ _ (c.in_ok-slots.ensures.items_if_clones_equal (λ y e. e)) (c.in_ok-index.ensures.items_if_clones_equal (λ y e. e)) (c.in_ok-seals.ensures.items_if_clones_equal (λ y e. e) ∙ ap (λ (k : ℕ). replicate (k * c.args.parties) 0) c.record_size.ensures)
     (c.in_ok-bits.ensures.items_if_clones_equal (λ y e. e)) (c.in_ok-order.ensures.items_if_clones_equal (λ y e. e))

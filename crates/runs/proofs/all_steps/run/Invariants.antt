@@ -2,7 +2,7 @@ use Rattle.std.proofs.Common.{string_bytes}
 use Rattle.std.specs.Iterator.Adapters.{enumerate_source, enumerate_count}
 use Rattle.ceremony.specs.Draws.{state}
 use Rattle.runs.proofs.Turns.{Leads}
-use Rattle.runs.proofs.run.run.Given as goal
+use Rattle.runs.proofs.all_steps.run.Given as goal
 
 abbrev pub invariant-loop-before : goal.invariant-loop-before
 invariant-loop-before l =

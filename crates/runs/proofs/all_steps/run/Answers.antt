@@ -1,6 +1,6 @@
 use Rattle.std.proofs.Common.{rules}
 use Rattle.runs.proofs.Turns.{ends, goes_on}
-use Rattle.runs.proofs.run.run.Goals as goal
+use Rattle.runs.proofs.all_steps.run.Goals as goal
 
 pub loop-before-init : goal.loop-before-init
 loop-before-init c = (search rules, search rules, record { state = search rules; cut = search rules; text = search rules })
