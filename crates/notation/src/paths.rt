@@ -51,6 +51,7 @@ impl<'a> Iterator for Paths<'a> {
 
     ghost remaining = { item_count named_left };
 
+    // The places are counted, since they are what is told.
     fn next(&mut self) -> Option<NamedFile<'a>> {
         while self.at < self.text.len() {
             let at = self.at;

@@ -29,7 +29,7 @@ impl<'a> Name<'a> {
         }
     }
 
-    // The name of a number, found by going from one to the next.
+    // The name of a number, found by going from one to the next: each place follows from the one before.
     pub(crate) fn of(bytes: &'a [u8], number: u16) -> Name<'a>
         ensures bytes { result.bytes.now ≡ bytes.now }
         ensures number { result.number ≡ number }

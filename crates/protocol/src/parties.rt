@@ -78,7 +78,7 @@ impl<'a> Party<'a> {
         }
     }
 
-    // The party so many further on.
+    // The party so many further on: each place follows from the one before.
     pub(crate) fn further(&self, parties: u8) -> Party<'a>
         requires { self.now.number + parties < 256 }
         ensures bytes { result.bytes.now ≡ self.now.bytes.now }

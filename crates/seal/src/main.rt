@@ -13,6 +13,7 @@ use std::{env, fs};
 
 const USAGE: &str = "usage: seal STEPS PARTY OPENING";
 
+// As in the other programs: no contract can say what a file holds, so no crate has this for them.
 fn read(rt: &HostRuntime, path: &str) -> anyhow::Result<Vec<u8>> {
     fs::read(rt, path).context(format_args!("cannot read {path}"))
 }

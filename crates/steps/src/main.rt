@@ -14,6 +14,7 @@ use std::{env, fs};
 
 const USAGE: &str = "usage: steps TEXT STEPS, or steps --show STEPS";
 
+// As in the other programs: no contract can say what a file holds, so no crate has this for them.
 fn read_file(rt: &HostRuntime, path: &str) -> anyhow::Result<Vec<u8>> {
     fs::read(rt, path).context(format_args!("cannot read {path}"))
 }

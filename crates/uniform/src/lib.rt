@@ -33,7 +33,8 @@ impl<'a> BitReader<'a> {
         }
     }
 
-    // A number below n from the bits that come next; or none where the bits run out, and then they are still to come.
+    // A number below n from the bits that come next; or none where the bits run out, and then they are still to come. The
+    // place is moved by hand: no iterator of the library goes on by a width that is known only here.
     pub fn draw_below(&mut self, n: u16) -> Option<u16>
         ensures is { option_map (λ k. (k, self.new.at)) result ≡ drawn_at (bits self.old.bytes.now) self.old.at n }
         ensures below { IfSome result (λ k. k < n) }
