@@ -7,7 +7,8 @@ ghost use Rattle.std.specs.Prelude.{◌<◌, ◌≤◌};
 use anyhow::Context;
 use order::draw_order;
 
-// A tally for each row of five names, read as a number with five digits of five values.
+// A tally for each row of five names, read as a number with five digits of five values: an array, since all of them are looked
+// through at the end, and no memory is asked for.
 const TALLIES: usize = 3125;
 
 fn tally_of(order: &[u16]) -> usize
