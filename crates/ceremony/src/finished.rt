@@ -9,6 +9,7 @@ ghost use Rattle.std.specs.Option.{option_map};
 
 use crate::closed::Closed;
 use order::draw_order;
+use parts::front;
 use protocol::write;
 use seals::Records;
 use std::alloc::{AllocError, Global};
@@ -90,8 +91,7 @@ impl<'a> Finished<'a> {
         ensures { option_map (λ x. x.now) result ≡ order_of (as_ended self.now) }
     {
         self.used?;
-        let names = self.closed.order.len().min(self.closed.list.count as usize);
-        Some(&self.closed.order[..names])
+        Some(front(self.closed.order, self.closed.list.count as usize))
     }
 
     // The lines that name the parties whose openings have not come.

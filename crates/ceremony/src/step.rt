@@ -21,7 +21,8 @@ pub enum Draw<'a> {
 }
 
 // A step in each phase. They are alike, but each has its own kinds, its own next phase and its own refusals: one function
-// for all three would take more functions than it has lines.
+// for all three would take more functions than it has lines. Kind and bytes come apart: a step of a file has its kind as a
+// byte, which may be none of these.
 fn in_listing<'a>(mut s: Listing<'a>, kind: Kind, bytes: &[u8]) -> (Draw<'a>, Result<(), Refusal>)
     ensures state { state result.0 ≡ (step (listing (as_listed s.entry)) (kind_number kind) bytes.now).0 }
     ensures answer { why result.1 ≡ (step (listing (as_listed s.entry)) (kind_number kind) bytes.now).1 }

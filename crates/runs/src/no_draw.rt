@@ -30,7 +30,7 @@ impl fmt::Display for NoDraw {
     fn fmt<W: fmt::Write>(&self, f: &mut fmt::Formatter<W>) -> fmt::Result {
         match self {
             NoDraw::Unfinished => f.write_str("the steps end before the draw is closed"),
-            NoDraw::Cut => f.write_str("the file ends inside a step"),
+            NoDraw::Cut => CutShort.fmt(f),
         }
     }
 }
