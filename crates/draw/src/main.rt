@@ -1,7 +1,7 @@
 // draw STEPS [PROTOCOL]: runs a file of steps, prints what comes of it, and writes the protocol of a draw that ends.
 #![tactic(auto)]
 
-use anyhow::{Context, bail};
+use anyhow::{anyhow, bail};
 use program::finish;
 use runs::{Finish, Report, draw};
 use std::process::ExitCode;
@@ -20,7 +20,7 @@ fn save(rt: &HostRuntime, path: &str, bytes: &[u8]) -> anyhow::Result<()> {
     if saved.is_err() {
         let _ = fs::remove_file(rt, beside.as_str());
     }
-    saved.context(format_args!("cannot write {path}"))
+    saved.map_err(|e| anyhow!("cannot write {path}: {e}"))
 }
 
 // Prints a report; the protocol is saved before the summary is printed, so that nobody reads of a draw that was lost.
@@ -51,7 +51,7 @@ fn run(rt: &HostRuntime) -> anyhow::Result<ExitCode> {
         println!(rt; "{USAGE}")?;
         return Ok(ExitCode::SUCCESS);
     }
-    let file = fs::read(rt, steps.as_str()).context(format_args!("cannot read {steps}"))?;
+    let file = fs::read(rt, steps.as_str()).map_err(|e| anyhow!("cannot read {steps}: {e}"))?;
     tell(rt, draw(rt.alloc(), file.as_slice())?, protocol)?;
     Ok(ExitCode::SUCCESS)
 }

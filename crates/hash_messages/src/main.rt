@@ -4,7 +4,7 @@
 
 ghost use Rattle.std.specs.Prelude.{◌<◌, length, IfSome};
 
-use anyhow::{Context, bail};
+use anyhow::{Context, anyhow, bail};
 use program::finish;
 use std::alloc::Global;
 use std::fmt::Write;
@@ -35,7 +35,7 @@ fn run(rt: &HostRuntime) -> anyhow::Result<ExitCode> {
     let [name] = words.as_slice() else {
         bail!("usage: hash_messages FILE");
     };
-    let bytes = fs::read(rt, name.as_str()).context(format_args!("cannot read {name}"))?;
+    let bytes = fs::read(rt, name.as_str()).map_err(|e| anyhow!("cannot read {name}: {e}"))?;
     let text = hashes(rt.alloc(), bytes.as_slice())?;
     print!(rt; "{text}")?;
     Ok(ExitCode::SUCCESS)

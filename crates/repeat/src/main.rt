@@ -2,7 +2,7 @@
 // refused. The status is 0 if it is accepted, else 1.
 #![tactic(auto)]
 
-use anyhow::{Context, bail};
+use anyhow::{anyhow, bail};
 use program::finish;
 use protocol::repeat_text;
 use std::process::ExitCode;
@@ -12,7 +12,7 @@ const USAGE: &str = "usage: repeat PROTOCOL";
 
 // Prints what is to be said of the protocol in a file, and answers whether it is accepted.
 fn repeat(rt: &HostRuntime, path: &str) -> anyhow::Result<ExitCode> {
-    let protocol = fs::read(rt, path).context(format_args!("cannot read {path}"))?;
+    let protocol = fs::read(rt, path).map_err(|e| anyhow!("cannot read {path}: {e}"))?;
     match repeat_text(rt.alloc(), protocol.as_slice())? {
         Ok(text) => {
             rt.print(text.as_str())?;

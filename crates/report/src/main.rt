@@ -3,7 +3,7 @@
 // the protocol is accepted and the name has a place, else 1.
 #![tactic(auto)]
 
-use anyhow::{Context, bail};
+use anyhow::{anyhow, bail};
 use output::{Output, whole};
 use program::finish;
 use report_text::{put_place, put_report};
@@ -50,7 +50,7 @@ fn run(rt: &HostRuntime) -> anyhow::Result<ExitCode> {
         println!(rt; "{USAGE}")?;
         return Ok(ExitCode::SUCCESS);
     }
-    let protocol = fs::read(rt, path.as_str()).context(format_args!("cannot read {path}"))?;
+    let protocol = fs::read(rt, path.as_str()).map_err(|e| anyhow!("cannot read {path}: {e}"))?;
     tell(rt, protocol.as_slice(), name)
 }
 

@@ -2,7 +2,7 @@
 // party's number, the seal in hex, and until when to keep the opening secret. The status is 0 if there is a seal, else 1.
 #![tactic(auto)]
 
-use anyhow::{Context, bail, ensure};
+use anyhow::{anyhow, bail, ensure};
 use ceremony::{Draw, Listing};
 use output::whole;
 use program::finish;
@@ -15,7 +15,7 @@ const USAGE: &str = "usage: seal STEPS PARTY OPENING";
 
 // As in the other programs: no contract can say what a file holds, so no crate has this for them.
 fn read(rt: &HostRuntime, path: &str) -> anyhow::Result<Vec<u8>> {
-    fs::read(rt, path).context(format_args!("cannot read {path}"))
+    fs::read(rt, path).map_err(|e| anyhow!("cannot read {path}: {e}"))
 }
 
 // Prints the seal, or on stderr why there is none.

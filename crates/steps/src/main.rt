@@ -2,7 +2,7 @@
 // steps --show STEPS: prints a file of steps as such a text.
 #![tactic(auto)]
 
-use anyhow::{Context, anyhow, bail};
+use anyhow::{anyhow, bail};
 use names_text::is_text;
 use notation::{Paths, read, show};
 use output::{Output, whole};
@@ -16,7 +16,7 @@ const USAGE: &str = "usage: steps TEXT STEPS, or steps --show STEPS";
 
 // As in the other programs: no contract can say what a file holds, so no crate has this for them.
 fn read_file(rt: &HostRuntime, path: &str) -> anyhow::Result<Vec<u8>> {
-    fs::read(rt, path).context(format_args!("cannot read {path}"))
+    fs::read(rt, path).map_err(|e| anyhow!("cannot read {path}: {e}"))
 }
 
 // Writes a file whole or not at all: beside its place first, and then renamed. No contract can promise what a file system
@@ -30,7 +30,7 @@ fn save(rt: &HostRuntime, path: &str, bytes: &[u8]) -> anyhow::Result<()> {
     if saved.is_err() {
         let _ = fs::remove_file(rt, beside.as_str());
     }
-    saved.context(format_args!("cannot write {path}"))
+    saved.map_err(|e| anyhow!("cannot write {path}: {e}"))
 }
 
 // Adds the contents of a file as a step. What is longer than a step is cut, and still too long for an opening.
