@@ -13,6 +13,10 @@ use std::{env, fs};
 
 const USAGE: &str = "usage: report PROTOCOL [--find NAME]";
 
+// The most that is lent at first: a line for each of 2,000 names has 160 bytes at most, one for each of 255 parties 24, and
+// the rest is short. Without it a file that is no protocol would be told of in eight times its size.
+const TEXT: usize = 393_216;
+
 // Writes what there is to tell, and answers whether all is well.
 fn put(
     heap: Global,
@@ -29,7 +33,11 @@ fn put(
 // Prints what there is to tell, and answers whether all is well. What is amiss goes to stderr.
 fn tell(rt: &HostRuntime, protocol: &[u8], name: Option<&str>) -> anyhow::Result<ExitCode> {
     let heap = rt.alloc();
-    let size = protocol.len().saturating_mul(8).saturating_add(256);
+    let size = protocol
+        .len()
+        .saturating_mul(8)
+        .saturating_add(256)
+        .min(TEXT);
     let (text, well) = whole(heap, size, |out| put(heap, out, protocol, name))?;
     if well? {
         rt.write_all(text.as_slice())?;

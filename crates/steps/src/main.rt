@@ -5,9 +5,10 @@
 use anyhow::{anyhow, bail};
 use names_text::is_text;
 use notation::{Paths, read, show};
-use output::{Output, whole};
+use output::Output;
 use program::finish;
 use std::alloc::{AllocError, Global};
+use std::error::Error;
 use std::process::ExitCode;
 use std::str::from_utf8;
 use std::{env, fs};
@@ -59,20 +60,42 @@ fn contents(rt: &HostRuntime, text: &[u8]) -> anyhow::Result<Vec<u8>> {
     Ok(files)
 }
 
+// All that is written, in the memory that was lent, cut to it where it stands: `whole` gives a copy, which would take as much
+// memory again. Where the text reaches the end of the memory there may be more, so twice as much is lent.
+fn written<E: Error + Drop, F: Fn(&mut Output) -> Result<(), E> + Drop>(
+    heap: Global,
+    size: usize,
+    write: F,
+) -> anyhow::Result<Vec<u8>>
+    requires { F.IsAlwaysCallable write }
+{
+    let mut lent = size;
+    loop {
+        let mut memory = vec![in heap; 0; lent]?;
+        let mut out = Output {
+            memory: memory.as_mut_slice(),
+            at: 0,
+        };
+        write(&mut out)?;
+        let end = out.at;
+        if end < memory.len() {
+            memory.truncate(end);
+            return Ok(memory);
+        }
+        lent = 2 * memory.len() + 1;
+    }
+}
+
 // The steps that a text says.
 fn steps_of(heap: Global, text: &[u8], files: &[u8]) -> anyhow::Result<Vec<u8>> {
     let size = text.len().saturating_add(files.len()).saturating_add(1);
-    let (steps, done) = whole(heap, size, |out: &mut Output| read(text, files, out))?;
-    done?;
-    Ok(steps)
+    written(heap, size, |out: &mut Output| read(text, files, out))
 }
 
 // The text that shows steps.
 fn text_of(heap: Global, file: &[u8]) -> anyhow::Result<Vec<u8>> {
     let size = file.len().saturating_mul(4).saturating_add(1);
-    let (text, done) = whole(heap, size, |out: &mut Output| show(file, out))?;
-    done?;
-    Ok(text)
+    written(heap, size, |out: &mut Output| show(file, out))
 }
 
 fn print_shown(rt: &HostRuntime, path: &str) -> anyhow::Result<()> {
