@@ -25,11 +25,11 @@ pub const LONGEST_NAME: usize = 64;
 
 pub const SLOT: usize = 1 + LONGEST_NAME;
 
-// The list of names, in memory that is only read.
+// The list of names, in memory that is only read. A name lies in the slots alone, so it outlives what is lent of the index.
 #[derive(Clone, Copy, Debug)]
-pub struct Names<'a> {
-    pub slots: &'a [u8],
-    pub index: &'a [u16],
+pub struct Names<'s, 'i> {
+    pub slots: &'s [u8],
+    pub index: &'i [u16],
     pub count: u16,
 }
 
@@ -106,7 +106,7 @@ fn hash_names(slots: &[u8], numbers: &[u16]) -> [u8; 32]
     hasher.finish()
 }
 
-impl<'a> Names<'a> {
+impl<'s, 'i> Names<'s, 'i> {
     // How many names are listed.
     pub fn len(&self) -> u16
         ensures { result ≡ length (names_listed self.now) }
@@ -115,7 +115,7 @@ impl<'a> Names<'a> {
     }
 
     // The slots' numbers in the order of the list.
-    fn numbers(&self) -> &'a [u16]
+    fn numbers(&self) -> &'i [u16]
         ensures { result.now ≡ take self.now.count self.now.index.now }
     {
         &self.index[..self.len() as usize]
@@ -137,7 +137,7 @@ impl<'a> Names<'a> {
     }
 
     // Name number `number` of the list, as a part of the bytes; none of that number is no bytes.
-    pub fn name(&self, number: u16) -> &'a [u8]
+    pub fn name(&self, number: u16) -> &'s [u8]
         ensures is { result.now ≡ slice_index_or (map (name_in self.now.slots.now) self.now.index.now) number [] }
         ensures short { length result.now < 256 }
     {
@@ -157,7 +157,7 @@ impl<'a> Names<'a> {
 
 impl NameList<'_> {
     // The list to be read.
-    pub fn names(&self) -> Names<'_>
+    pub fn names(&self) -> Names<'_, '_>
         ensures slots { result.slots.now ≡ self.now.slots.now }
         ensures index { result.index.now ≡ self.now.index.now }
         ensures count { result.count ≡ self.now.count }

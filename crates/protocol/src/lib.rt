@@ -82,7 +82,7 @@ pub fn bits_used(heap: Global, protocol: &[u8]) -> Result<Option<usize>, AllocEr
 // The protocol of a finished draw: its list, its parties, and the order if there is one.
 pub fn write(
     heap: Global,
-    names: Names<'_>,
+    names: Names<'_, '_>,
     records: Records<'_>,
     order: Option<&[u16]>,
 ) -> Result<Vec<u8>, AllocError>
