@@ -1,5 +1,5 @@
 // The whole report, and the place of one member alone.
-ghost use Rattle.std.specs.Prelude.{IfOk, ◌≡◌};
+ghost use Rattle.std.specs.Prelude.{IfOk, OnErr, ◌≡◌};
 ghost use Rattle.std.specs.Option.{option_map};
 ghost use Rattle.output.specs.Writes.{Writes};
 ghost use Rattle.protocol.specs.Check.{verdict};
@@ -33,13 +33,14 @@ fn put_order(out: &mut Output, protocol: &[u8], order: Option<&[u16]>)
     }
 }
 
-// Writes the report of a protocol, or why it is refused. Where memory runs out, nothing is promised of what stands in `out`.
+// Writes the report of a protocol, or why it is refused. Where memory runs out, nothing is written.
 pub fn put_report(
     heap: Global,
     out: &mut Output,
     protocol: &[u8],
 ) -> Result<Result<(), Refusal>, AllocError>
     ensures text { IfOk result (λ _. Writes out.old out.new (report protocol.now)) }
+    ensures unwritten { OnErr result (out.new ≡ out.old) }
     ensures accepted { IfOk result (λ r. r ≡ accepted_or_refused (verdict protocol.now)) }
 {
     match check(heap, protocol) {
@@ -93,7 +94,7 @@ fn put_no_place(out: &mut Output, why: NoPlace)
 }
 
 // Writes the place of one name alone, or why there is none, and answers the same. Where memory runs out, nothing is
-// promised of what stands in `out`.
+// written.
 pub fn put_place(
     heap: Global,
     out: &mut Output,
@@ -101,6 +102,7 @@ pub fn put_place(
     name: &[u8],
 ) -> Result<Result<usize, NoPlace>, AllocError>
     ensures text { IfOk result (λ r. Writes out.old out.new (place_told name.now r)) }
+    ensures unwritten { OnErr result (out.new ≡ out.old) }
     ensures place { IfOk result (λ r. r ≡ place_for protocol.now name.now) }
 {
     let found = place_for(heap, protocol, name)?;
