@@ -1,7 +1,7 @@
 -- The rounds and the schedule of a block, one step after another.
 -- Assumes nothing.
-use Rattle.std.proofs.Common.{◌≡◌, ℕ, zero, suc, ◌+◌, ◌*◌, ◌<◌, List, [], ◌∷◌, ◌++◌, length, get_or, take, drop, set, sym, refl, ap, ◌∙◌, add-zero, add-one, zero-mul, suc-mul, arith}
-use Rattle.std.proofs.lemmas.List.{take_more_set, get_or-take, get_or-drop, drop-drop}
+use Rattle.std.proofs.Common.{◌≡◌, ℕ, zero, suc, ◌+◌, ◌-◌, ◌*◌, ◌<◌, ◌≤◌, List, [], ◌∷◌, ◌++◌, length, get_or, take, drop, set, sym, refl, ap, ◌∙◌, add-zero, add-one, zero-mul, suc-mul, arith}
+use Rattle.std.proofs.lemmas.List.{take_more_set, get_or_append_left, get_or_push, get_or-take, get_or-drop, drop-drop, length_push}
 use Rattle.std.specs.Int.{from_be_bytes}
 use Rattle.std.specs.Simd.{first_chunks}
 use mir.Syntax.{w32}
@@ -52,6 +52,40 @@ schedule_more t v ws block h e f =
     ∙ ap (λ (x : ℕ). take (t + 16) ws ++ x ∷ []) (f ∙ same)
     ∙ ap (λ (vs : List ℕ). vs ++ next t vs ∷ []) e
     ∙ ap (λ (n : ℕ). schedule n block) (sym (add-one t))
+
+-- a schedule with one word more, and how long it is
+schedule_next : (t : ℕ) (block : List ℕ) → schedule (t + 1) block ≡ schedule t block ++ next t (schedule t block) ∷ []
+unfolding schedule longer
+schedule_next t block = ap (λ (n : ℕ). schedule n block) (add-one t)
+
+length_schedule : (t : ℕ) (block : List ℕ) → length (schedule t block) ≡ t + 16
+unfolding schedule longer first_words
+length_schedule zero block = refl
+length_schedule (suc t) block =
+    length_push (schedule t block) (next t (schedule t block)) ∙ ap (λ (n : ℕ). n + 1) (length_schedule t block) ∙ omega arith
+
+-- it grows at its end, so a word that is there stays
+schedule_front : (n t : ℕ) (block : List ℕ) (k : ℕ) → k < t + 16 → get_or (schedule (t + n) block) k 0 ≡ get_or (schedule t block) k 0
+schedule_front zero t block k h = ap (λ (m : ℕ). get_or (schedule m block) k 0) (add-zero t)
+schedule_front (suc n) t block k h =
+    let long : length (schedule (t + n) block) ≡ t + n + 16 = length_schedule (t + n) block in
+    let place : t + suc n ≡ t + n + 1 = omega arith in
+    ap (λ (m : ℕ). get_or (schedule m block) k 0) place ∙ ap (λ (ws : List ℕ). get_or ws k 0) (schedule_next (t + n) block)
+    ∙ get_or_append_left (schedule (t + n) block) (next (t + n) (schedule (t + n) block) ∷ []) 0 k (omega arith)
+    ∙ schedule_front n t block k h
+
+whole_front : (t : ℕ) (block : List ℕ) → t ≤ 48 → (k : ℕ) → k < t + 16 → get_or (schedule t block) k 0 ≡ get_or (schedule 48 block) k 0
+whole_front t block g k h =
+    let all : t + (48 - t) ≡ 48 = omega arith in
+    sym (schedule_front (48 - t) t block k h) ∙ ap (λ (m : ℕ). get_or (schedule m block) k 0) all
+
+-- the word at t + 16 of the whole schedule is the one that comes of the words before it
+pub schedule_word : (t : ℕ) (block : List ℕ) → t < 48 → next t (schedule 48 block) ≡ get_or (schedule 48 block) (t + 16) 0
+schedule_word t block h =
+    sym (next_same t (schedule t block) (schedule 48 block) (whole_front t block (omega arith)))
+    ∙ sym (get_or_push (schedule t block) (next t (schedule t block)) 0 (t + 16) (length_schedule t block))
+    ∙ ap (λ (ws : List ℕ). get_or ws (t + 16) 0) (sym (schedule_next t block))
+    ∙ whole_front (t + 1) block (omega arith) (t + 16) (omega arith)
 
 -- the chunks of a list, and the words of the chunks of a block
 chunk_at : (n k : ℕ) (xs : List ℕ) (i : ℕ) → i < k → get_or (first_chunks n k xs) i [] ≡ take n (drop (i * n) xs)
